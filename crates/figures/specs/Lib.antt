@@ -1,0 +1,10 @@
+pub mod Bands
+pub mod Checks
+pub mod Edges
+pub mod Limits
+pub mod Notices
+pub mod Pieces
+pub mod Prices
+pub mod Refusals
+pub mod Senders
+pub mod Sheets
