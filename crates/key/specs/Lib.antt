@@ -1,0 +1,5 @@
+pub mod Desks
+pub mod Keys
+pub mod Lines
+pub mod Refusals
+pub mod Requests
