@@ -3,6 +3,9 @@ ghost use mathlib.Core.Path.{_≡_};
 ghost use Prim.Native.Nat.{_+_, _≤_};
 ghost use lib.ListN.{length};
 ghost use Rattle.records.specs.Reading.{bodyOf, digitOf, fieldAt, lineOf, numberOf};
+ghost use Rattle.records.specs.Writing.{bytesOf};
+ghost use Rattle.records.specs.declared.line.Line.{Line};
+ghost use Rattle.std.specs.declared.result.Result.the-variants.{Ok};
 use crate::line::Line;
 use crate::line::Unreadable;
 
@@ -61,9 +64,10 @@ fn body(letter: u8, mark: u8, rest: &[u8]) -> Result<Line, Unreadable>
 }
 
 impl Line {
-    // The line that forty bytes hold.
+    // The line that forty bytes hold: they are just what that line is written as.
     pub fn read(bytes: &[u8]) -> Result<Line, Unreadable>
-        ensures { λ r. ⌜ r ≡ lineOf (now (bytes .entry)) ⌝ }
+        ensures is { λ r. ⌜ r ≡ lineOf (now (bytes .entry)) ⌝ }
+        ensures exact { λ r. ⌜ ((l : Line) → r ≡ Ok l → now (bytes .entry) ≡ bytesOf l) ⌝ }
     {
         match bytes {
             [letter, mark, rest @ ..] => body(*letter, *mark, rest),

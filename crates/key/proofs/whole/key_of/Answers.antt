@@ -13,8 +13,8 @@ use Rattle.key.proofs.whole.key_of.Needs as need
 pub loop-piece-holds : need.loop-piece-holds
 loop-piece-holds c =
     let is = c .into-iter-piece-iterator .ensures .becomes in (
-      ap (λ x. x .size) is ∙ c .chunks-piece-items .ensures .size,
-      begun (c .args .input .now) (c .into-iter-piece-iterator .result .rest .now) (vec-items (c .new-key .result)) (referenceOf (c .new-desk .result .open)) (c .new-key .ensures .items) (c .new-desk .ensures) (ap (λ x. x .rest .now) is ∙ c .chunks-piece-items .ensures .rest),
+      ap (λ x. x .size) is ∙ c .cut-piece-items .ensures .size,
+      begun (c .args .input .now) (c .into-iter-piece-iterator .result .rest .now) (vec-items (c .new-key .result)) (referenceOf (c .new-desk .result .open)) (c .new-key .ensures .items) (c .new-desk .ensures) (ap (λ x. x .rest .now) is ∙ c .cut-piece-items .ensures .rest),
     )
 
 pub loop-piece-again : need.loop-piece-again
