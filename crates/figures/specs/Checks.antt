@@ -44,13 +44,13 @@ beyondCheck means reference price f = holds (isWithin price reference (means ref
 abbrev pub piecesCheck : (ℕ → Measures) → ℕ → ℕ → ℕ → Field → Checked
 piecesCheck means reference price pieces f = holds (areAllowed pieces price reference (means reference .turnover)) (Pieces f)
 
-unfoldable pub orderCheck : (ℕ → Measures) → ℕ → ℕ → ℕ → Checked
+abbrev pub orderCheck : (ℕ → Measures) → ℕ → ℕ → ℕ → Checked
 orderCheck means reference price pieces =
     and (priceCheck price field.Price)
     (and (beyondCheck means reference price field.Price)
     (piecesCheck means reference price pieces field.Pieces))
 
-unfoldable pub quoteCheck : (ℕ → Measures) → ℕ → Offer → Checked
+abbrev pub quoteCheck : (ℕ → Measures) → ℕ → Offer → Checked
 quoteCheck means reference offer =
     and (priceCheck (offer .bid) field.Price)
     (and (priceCheck (offer .ask) field.Ask)
