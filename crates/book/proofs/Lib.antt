@@ -1,0 +1,14 @@
+pub mod Bests
+pub mod Biting
+pub mod GoodMoves
+pub mod Loops
+pub mod NextMoves
+pub mod OneRun
+pub mod Pairs
+pub mod Parties
+pub mod Placing
+pub mod RowChanges
+pub mod Rulings
+pub mod Running
+pub mod Tails
+pub mod Takers

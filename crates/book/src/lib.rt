@@ -1,0 +1,24 @@
+// The book: orders in 128 places, the quote, rankings, and the cross between them.
+pub mod admit;
+mod cross;
+pub mod crossed;
+mod decide;
+pub mod fault;
+mod first;
+pub mod found;
+pub mod frame;
+pub mod laws;
+mod make;
+mod moves;
+pub mod order;
+mod pick;
+pub mod proposal;
+pub mod quote;
+pub mod ranking;
+mod rows;
+pub mod side;
+pub mod slip;
+mod step_a;
+mod step_b;
+pub mod table;
+mod tail;
