@@ -64,3 +64,47 @@ fn a_day_that_is_open_at_the_end_is_closed(rt: LibcRuntime) -> Result<(), Fail> 
         b"AD0000000000000000000010000000000000000\nZ10000000000000000000000000000000000000\nZ20000000000000000000000000000000000000\n",
     )
 }
+
+// Input and key of each refusal that the program or the opening of a day gives.
+const REFUSALS: [(&[u8], &[u8]); 7] = [
+    // X with no day open
+    (
+        b"X-0000000000000000000000000000000000000\n",
+        b"NP0001900000000000000000000000000000000\n",
+    ),
+    // a small number that X does not use
+    (
+        b"X-0000100000000000000000000000000000000\n",
+        b"NP0001800000000000000000000000000000000\n",
+    ),
+    // a last piece that is too short
+    (b"X-000", b"NP0001800000000000000000000000000000000\n"),
+    // reference 0, and a reply time of 61 seconds that is not tested any more
+    (
+        b"OL0006100000000000000010000000000000000\n",
+        b"NS0001500000001000000000000000000000000\n",
+    ),
+    // reply times of 0 and of 61 seconds
+    (
+        b"OL0000000100000000000010000000000000000\n",
+        b"NS0001500000005000000000000000000000000\n",
+    ),
+    (
+        b"OL0006100100000000000010000000000000000\n",
+        b"NS0001500000005000000000000000000000000\n",
+    ),
+    // a second opening: the day goes on, and the end of input closes it
+    (
+        b"OL0001000100000000000010000000000000000\nOI0001000200000000000010000000000000000\n",
+        b"AD0000000000000001000000000000000000000\nNP0001900000000000000000000000000000000\nZ10000000000000000000000000000000000000\nZ20000000000000000000000000000000000000\n",
+    ),
+];
+
+#[test]
+fn what_cannot_be_done_is_refused(rt: LibcRuntime) -> Result<(), Fail> {
+    for (input, expected) in REFUSALS {
+        let key = key_of(rt.alloc(), input)?;
+        check_eq(key.as_slice(), expected)?;
+    }
+    Ok(())
+}
