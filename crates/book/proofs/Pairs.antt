@@ -13,7 +13,7 @@ use Rattle.book.specs.Opens.{ByPair, IsStep, Leads}
 use Rattle.book.specs.Outs.{Meets}
 use Rattle.book.specs.Sound.{Sound}
 use Rattle.book.proofs.Bests.{Top, IsFirst, first_is, true_false, same_order}
-use Rattle.book.proofs.GoodMoves.{Good, same_side_lem, side_same, beyond, not_better, cond_price, is_order, meets_from, served_row}
+use Rattle.book.proofs.GoodMoves.{Good, same_side_lem, side_same, not_better, cond_price, is_order, meets_from, served_row}
 use Rattle.book.proofs.Tails.{sweeping}
 
 module _ (rank : Rank) (L : RankLaw rank) (f : Frame) (b : Board) (S : Sound f b) (up : b.halted ≡ false) where

@@ -1,5 +1,5 @@
 -- The first, by rank or by ticket, of the orders that a search looks at.
-use Rattle.std.specs.Prelude.{ℕ, ◌+◌, Bool, cond, List, [], ◌∷◌, is_some, Some, None, Option}
+use Rattle.std.specs.Prelude.{ℕ, ◌+◌, Bool, cond, [], ◌∷◌, is_some, Some, None, Option}
 use Rattle.book.specs.Proposals.{Order, Quote}
 use Rattle.book.specs.Ranks.{Rank}
 use Rattle.book.specs.Picks.{Pick, Reaching, Owned, beats, earlier, picked}

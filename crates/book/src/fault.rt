@@ -6,7 +6,7 @@ ghost use Rattle.book.specs.Refusals.{book_refusal};
 use figures::fault::FiguresFault;
 use figures::refusal::{Layer, Refusal};
 
-#[derive(Clone, Copy, PartialEq, Eq)]
+#[derive(Clone, Copy, PartialEq, Eq, Debug)]
 pub enum BookFault {
     // an order stands in every place
     Full,

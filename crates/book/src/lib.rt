@@ -1,4 +1,7 @@
 // The book: orders in 128 places, the quote, rankings, and the cross between them.
+
+#![tactic(auto)]
+
 pub mod admit;
 mod cross;
 pub mod crossed;

@@ -105,9 +105,9 @@ const CASES: [Case; 7] = [
 ];
 
 #[test]
-fn a_flagged_quote_is_asked_from_enter_only() -> Result<(), Fail> {
+fn a_flagged_quote_is_asked_from_enter_only(rt: HostRuntime) -> Result<(), Fail> {
     for case in &CASES {
-        case.run(&ByTime)?;
+        case.run(&rt, &ByTime)?;
     }
     Ok(())
 }

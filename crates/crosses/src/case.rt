@@ -7,6 +7,7 @@ use book::ranking::Ranking;
 use book::side::Side;
 use book::slip::{Cause, Slip};
 use book::table::Table;
+use std::process::Abort;
 use std::test::*;
 
 // Ticket, mark, price, pieces: B buys, S sells, b and s do so as execute-and-cancel.
@@ -122,10 +123,10 @@ pub fn slip_of(line: Line) -> Slip {
 }
 
 impl Case {
-    pub fn run<R: Ranking>(&self, ranking: &R) -> Result<(), Fail> {
+    pub fn run<R: Ranking>(&self, rt: &impl Abort, ranking: &R) -> Result<(), Fail> {
         let mut table = Table::new();
         for row in self.orders {
-            assert!(table.place(order_of(*row)).is_ok(), "{}", self.name);
+            assert!(rt; table.place(order_of(*row)).is_ok(), "{}", self.name);
         }
         let mut list = [BLANK; 129];
         let crossed = table.cross(ranking, self.frame, self.quote, &mut list);
@@ -135,9 +136,9 @@ impl Case {
             quote: self.quote_left(),
             halted: self.halted,
         };
-        assert!(crossed == expected, "{}", self.name);
-        self.check_slips(&list)?;
-        self.check_rows(&table)
+        assert!(rt; crossed == expected, "{}", self.name);
+        self.check_slips(rt, &list)?;
+        self.check_rows(rt, &table)
     }
 
     fn quote_left(&self) -> Option<Quote> {
@@ -152,25 +153,25 @@ impl Case {
     }
 
     // The slips from the start of the list, and then what was in it.
-    fn check_slips(&self, list: &[Slip; 129]) -> Result<(), Fail> {
+    fn check_slips(&self, rt: &impl Abort, list: &[Slip; 129]) -> Result<(), Fail> {
         for i in 0..129 {
             let expected = if i < self.slips.len() {
                 slip_of(self.slips[i])
             } else {
                 BLANK
             };
-            assert!(list[i] == expected, "{}", self.name);
+            assert!(rt; list[i] == expected, "{}", self.name);
         }
         Ok(())
     }
 
     // The orders that are left, and no others.
-    fn check_rows(&self, table: &Table) -> Result<(), Fail> {
-        assert!(table.standing() == self.left.len(), "{}", self.name);
+    fn check_rows(&self, rt: &impl Abort, table: &Table) -> Result<(), Fail> {
+        assert!(rt; table.standing() == self.left.len(), "{}", self.name);
         for row in self.left {
             let order = order_of(*row);
             match table.find(order.sender, order.ticket) {
-                Some(found) => assert!(found.order == order, "{}", self.name),
+                Some(found) => assert!(rt; found.order == order, "{}", self.name),
                 None => return Err(Fail::new(self.name)),
             }
         }

@@ -156,9 +156,9 @@ const CASES: [Case; 8] = [
 ];
 
 #[test]
-fn a_pair_beyond_the_limit_halts() -> Result<(), Fail> {
+fn a_pair_beyond_the_limit_halts(rt: HostRuntime) -> Result<(), Fail> {
     for case in &CASES {
-        case.run(&ByTime)?;
+        case.run(&rt, &ByTime)?;
     }
     Ok(())
 }

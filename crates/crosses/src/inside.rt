@@ -171,17 +171,17 @@ const BY_SIZE: [Case; 5] = [
 ];
 
 #[test]
-fn by_time_the_lower_number_is_served_first() -> Result<(), Fail> {
+fn by_time_the_lower_number_is_served_first(rt: HostRuntime) -> Result<(), Fail> {
     for case in &BY_TIME {
-        case.run(&ByTime)?;
+        case.run(&rt, &ByTime)?;
     }
     Ok(())
 }
 
 #[test]
-fn by_size_more_pieces_are_served_first() -> Result<(), Fail> {
+fn by_size_more_pieces_are_served_first(rt: HostRuntime) -> Result<(), Fail> {
     for case in &BY_SIZE {
-        case.run(&BySize)?;
+        case.run(&rt, &BySize)?;
     }
     Ok(())
 }

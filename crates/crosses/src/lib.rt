@@ -1,4 +1,7 @@
 // Small crosses, each worked out by hand from the rules, and the places of the table.
+
+#![tactic(auto)]
+
 #[cfg(test)]
 mod asking;
 #[cfg(test)]

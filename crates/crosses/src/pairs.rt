@@ -166,17 +166,17 @@ const BY_SIZE: [Case; 1] = [
 ];
 
 #[test]
-fn pairs_trade_at_the_lower_ticket() -> Result<(), Fail> {
+fn pairs_trade_at_the_lower_ticket(rt: HostRuntime) -> Result<(), Fail> {
     for case in &BY_TIME {
-        case.run(&ByTime)?;
+        case.run(&rt, &ByTime)?;
     }
     Ok(())
 }
 
 #[test]
-fn pairs_go_by_size() -> Result<(), Fail> {
+fn pairs_go_by_size(rt: HostRuntime) -> Result<(), Fail> {
     for case in &BY_SIZE {
-        case.run(&BySize)?;
+        case.run(&rt, &BySize)?;
     }
     Ok(())
 }

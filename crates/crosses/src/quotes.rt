@@ -83,9 +83,9 @@ const CASES: [Case; 6] = [
 ];
 
 #[test]
-fn the_quote_serves_what_reaches_it() -> Result<(), Fail> {
+fn the_quote_serves_what_reaches_it(rt: HostRuntime) -> Result<(), Fail> {
     for case in &CASES {
-        case.run(&ByTime)?;
+        case.run(&rt, &ByTime)?;
     }
     Ok(())
 }

@@ -52,9 +52,9 @@ const CASES: [Case; 3] = [
 ];
 
 #[test]
-fn what_is_left_goes_out_lowest_ticket_first() -> Result<(), Fail> {
+fn what_is_left_goes_out_lowest_ticket_first(rt: HostRuntime) -> Result<(), Fail> {
     for case in &CASES {
-        case.run(&ByTime)?;
+        case.run(&rt, &ByTime)?;
     }
     Ok(())
 }

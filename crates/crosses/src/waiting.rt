@@ -111,9 +111,9 @@ const CASES: [Case; 7] = [
 ];
 
 #[test]
-fn waiting_orders_take_and_are_no_partners() -> Result<(), Fail> {
+fn waiting_orders_take_and_are_no_partners(rt: HostRuntime) -> Result<(), Fail> {
     for case in &CASES {
-        case.run(&ByTime)?;
+        case.run(&rt, &ByTime)?;
     }
     Ok(())
 }

@@ -1,4 +1,7 @@
 // Reads a candidate's records from standard input and writes the key to standard output.
+
+#![tactic(auto)]
+
 use key::whole::key_of;
 use std::io::{Read, Write};
 

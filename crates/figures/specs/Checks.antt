@@ -1,5 +1,5 @@
 -- The tests of an order's and a quote's figures: the first that fails is the fault.
-use Rattle.std.specs.Prelude.{ℕ, Bool, cond, List, [], ◌∷◌, Ok, Err, Result, nat_lt}
+use Rattle.std.specs.Prelude.{ℕ, Bool, cond, Ok, Err, Result, nat_lt}
 use Rattle.figures.specs.declared.check.Offer.{Offer}
 use Rattle.figures.specs.declared.fault.Field.{Field}
 use Rattle.figures.specs.declared.fault.Field.TheVariants as field

@@ -1,5 +1,5 @@
 -- Prices in points, and their ticks.
-use Rattle.std.specs.Prelude.{◌≡◌, ℕ, ◌*◌, ◌%◌, Bool, true, ◌&&◌, List, [], ◌∷◌, ◌==◌, nat_le}
+use Rattle.std.specs.Prelude.{ℕ, ◌%◌, Bool, ◌&&◌, List, [], ◌∷◌, ◌==◌, nat_le}
 use Rattle.figures.specs.Bands.{band_of, row}
 use Rattle.figures.specs.declared.band.Band.{Band}
 

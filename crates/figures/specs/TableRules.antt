@@ -1,6 +1,6 @@
 -- What holds at every place of a table: one test that is computed over its rows, and the rule of tables.
-use Rattle.std.specs.Prelude.{◌≡◌, ℕ, ◌≤◌, Bool, true, ◌&&◌, leb, List, nat_le, refl}
-use Rattle.std.proofs.Common.{arith, leb-true}
+use Rattle.std.specs.Prelude.{◌≡◌, ℕ, ◌≤◌, Bool, true, leb, List, nat_le, refl}
+use Rattle.std.proofs.Common.{leb-true}
 use Rattle.figures.specs.Bands.{band_of}
 use Rattle.figures.specs.Prices.{tick_of, tick_rows}
 use Rattle.figures.specs.Sheets.{Lawful, measures}

@@ -1,4 +1,7 @@
 // Figures: what a number in an order, a quote or a notice may be.
+
+#![tactic(auto)]
+
 pub mod band;
 pub mod check;
 pub mod edges;

@@ -1,6 +1,5 @@
 -- One piece after another is answered: what is written, and what the rest of the input will be answered, is the key.
 use Rattle.std.proofs.Common.{◌≡◌, ℕ, ◌<◌, min, List, [], ◌∷◌, ◌++◌, length, None, sym, refl, ap, ◌∙◌, append_assoc}
-use Rattle.records.specs.declared.line.Line.{Line}
 use Rattle.key.specs.Desks.{Standing, end_lines, responded, response_lines}
 use Rattle.key.specs.Keys.{answers, key_of, pieces, written}
 use Rattle.key.proofs.Cutting.{first_piece, no_piece}

@@ -1,7 +1,6 @@
 -- What a line asks for: a letter, its mark and its numbers, with 0 and - where nothing is asked.
 use Rattle.std.specs.Prelude.{ℕ, Bool, cond, ◌&&◌, Some, None, Option, ◌==◌}
 use Rattle.records.specs.declared.line.Line.{Line}
-use Rattle.key.specs.declared.request.Opening.{Opening}
 use Rattle.key.specs.declared.request.RankingKind.{RankingKind}
 use Rattle.key.specs.declared.request.RankingKind.TheVariants.{ByTime, BySize}
 use Rattle.key.specs.declared.request.Request.{Request}

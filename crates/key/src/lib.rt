@@ -1,4 +1,7 @@
 // Key: from the bytes of a candidate's input to the bytes of its key.
+
+#![tactic(auto)]
+
 pub mod desk;
 pub mod fault;
 pub mod lines;

@@ -1,4 +1,7 @@
 // The engine for a program in C or Rust that links it.
+
+#![tactic(auto)]
+
 ghost use Rattle.std.specs.Prelude.{◌≡◌, length};
 ghost use Rattle.whole_key.specs.Keys.{key_of};
 ghost use Rattle.port.specs.Ported.{Ported};

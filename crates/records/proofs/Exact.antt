@@ -1,9 +1,9 @@
 -- What reads as a line is what that line is written as: no two pieces of forty bytes hold the same line.
-use Rattle.std.proofs.Common.{◌≡◌, ℕ, zero, suc, ◌+◌, ◌-◌, ◌*◌, ◌/◌, ◌%◌, ◌^◌, ◌<◌, ◌≤◌, min, Bool, true, false, cond, ◌&&◌, eqb, leb, List, [], ◌∷◌, ◌++◌, length, get_or, take, drop, Some, None, Ok, Err, Option, Result, sym, refl, ap, ◌∙◌, add-zero, mod-eq_of_lt, zero-lt-suc, pow-suc, div-one, arith, length-drop, take-append-drop, length-take, drop-cons, drop-drop}
+use Rattle.std.proofs.Common.{◌≡◌, ℕ, ◌+◌, ◌-◌, ◌*◌, ◌/◌, ◌%◌, ◌^◌, ◌<◌, ◌≤◌, min, Bool, true, false, cond, ◌&&◌, eqb, List, [], ◌∷◌, ◌++◌, length, get_or, take, drop, Some, None, Ok, Err, Option, Result, sym, refl, ap, ◌∙◌, add-zero, mod-eq_of_lt, zero-lt-suc, pow-suc, div-one, arith, length-drop, take-append-drop, length-take, drop-cons, drop-drop}
 use native.Mathlib.Nat.{div-div-eq-div-mul, mul-add-div_right, mul-add-mod_self_right, div-eq_of_lt}
 use Rattle.std.proofs.lemmas.List.{drop_all}
 use Rattle.std.proofs.lemmas.Bool.Decides.{nat_tests}
-use Rattle.records.specs.Reading.{body_of, digit_of, field_at, line, line_of, more, number_from, number_of, or_unreadable, then, unreadable}
+use Rattle.records.specs.Reading.{digit_of, field_at, line, line_of, more, number_from, number_of, or_unreadable, then, unreadable}
 use Rattle.records.specs.declared.line.Line.{Line}
 use Rattle.records.specs.declared.line.Unreadable.{Unreadable}
 use Rattle.records.specs.Writing.{bytes_of, digits_of}

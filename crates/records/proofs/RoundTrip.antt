@@ -1,5 +1,5 @@
 -- What is written of a line is read back as that line.
-use Rattle.std.proofs.Common.{◌≡◌, ℕ, zero, suc, ◌+◌, ◌-◌, ◌*◌, ◌/◌, ◌%◌, ◌^◌, ◌<◌, ◌≤◌, Bool, true, cond, ◌&&◌, List, [], ◌∷◌, ◌++◌, replicate, Some, None, Ok, Err, Option, Result, sym, refl, ap, ◌∙◌, subst, mod-lt, mod-eq_of_lt, zero-lt-suc, mul_assoc, add-mul, zero-add, zero-mul, arith}
+use Rattle.std.proofs.Common.{◌≡◌, ℕ, zero, suc, ◌+◌, ◌*◌, ◌/◌, ◌%◌, ◌^◌, ◌<◌, List, ◌∷◌, replicate, Some, Ok, refl, ap, ◌∙◌, mod-lt, mod-eq_of_lt, zero-lt-suc, mul_assoc, add-mul, zero-add, zero-mul, arith}
 use native.Mathlib.Nat.{pow-succ', one-le-pow}
 use lib.Arith.{mod-mul}
 use borrow.Rule.Slice.PartMut.{put_mid}
@@ -7,7 +7,6 @@ use Rattle.std.proofs.lemmas.Bool.Decides.{nat_tests}
 use Rattle.records.specs.Reading.{digit_of, line, line_of, more, number_from, number_of, or_unreadable, then}
 use Rattle.records.specs.Writing.{Fits, bytes_of, digits_of}
 use Rattle.records.specs.declared.line.Line.{Line}
-use Rattle.records.specs.declared.line.Unreadable.{Unreadable}
 
 -- the parts of a line put where they belong
 unfoldable laid : Line → List ℕ → List ℕ → List ℕ → List ℕ → List ℕ → List ℕ

@@ -5,7 +5,6 @@ use native.Mathlib.Bridge.{le_prop}
 use Rattle.figures.specs.Sheets.{Lawful, Measures}
 use Rattle.book.specs.Ranks.{Rank, RankLaw}
 use Rattle.book.specs.declared.slip.Slip.{Slip}
-use Rattle.session.specs.Acts.{Cancel}
 use Rattle.session.specs.Bounds.{Bounded, FewCancelled}
 use Rattle.session.specs.Calls.{done}
 use Rattle.session.specs.Days.{Day, State, fresh}

@@ -21,7 +21,7 @@ use Rattle.book.specs.declared.quote.Quote.{Quote}
 use Rattle.book.specs.declared.side.Side.{Side}
 use Rattle.book.specs.declared.side.Side.TheVariants.{Buy, Sell}
 use Rattle.book.proofs.Bests.{none_some, true_false}
-use Rattle.session.specs.Calls.{done, entered, order_of}
+use Rattle.session.specs.Calls.{done, order_of}
 use Rattle.session.specs.Phases.{is_asked, is_halted}
 use Rattle.session.specs.Runs.{crossing}
 use Rattle.session.specs.Stories.{yields}

@@ -1,4 +1,7 @@
 // Session: one day of one book.
+
+#![tactic(auto)]
+
 pub mod act;
 pub mod answer;
 pub mod check;

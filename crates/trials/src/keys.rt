@@ -48,7 +48,7 @@ fn bytes_that_are_no_line_are_unreadable(rt: HostRuntime) {
 #[test]
 fn an_empty_input_has_an_empty_key(rt: HostRuntime) -> Result<(), Fail> {
     let key = key_of(rt.alloc(), b"")?;
-    assert_eq!(rt; key.as_slice(), b"");
+    assert_eq!(rt; key.as_slice(), b"".as_slice());
     Ok(())
 }
 
@@ -57,7 +57,7 @@ fn a_day_that_is_open_at_the_end_is_closed(rt: HostRuntime) -> Result<(), Fail> 
     let key = key_of(rt.alloc(), b"OI0000100000001000000020000000000000000\n")?;
     assert_eq!(rt;
         key.as_slice(),
-        b"AD0000000000000000000010000000000000000\nZ10000000000000000000000000000000000000\nZ20000000000000000000000000000000000000\n"
+        b"AD0000000000000000000010000000000000000\nZ10000000000000000000000000000000000000\nZ20000000000000000000000000000000000000\n".as_slice()
     );
     Ok(())
 }

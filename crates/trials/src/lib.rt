@@ -1,4 +1,7 @@
 // The layers tried on examples whose answers were worked out from docs/RULES.md.
+
+#![tactic(auto)]
+
 #[cfg(test)]
 mod checks;
 #[cfg(test)]

@@ -1,4 +1,7 @@
 // Reads a candidate's records and writes the key.
+
+#![tactic(auto)]
+
 use anyhow::anyhow;
 use std::io::{Read, Write};
 use std::{env, fs};

@@ -63,7 +63,7 @@ module _ (rank : Rank) (f : Frame) (calm : f.entered ≡ false) where
   pairs : (b s : Found) (price : ℕ) → NoAsk (pairing_at f b s price)
   pairs b s price = cond_both (in_quote f price) _ _ NoAsk (λ _. cond_both (in_limit f price) _ _ NoAsk (λ _. tt) (λ _. tt)) (λ _. tt)
 
-  meets : (rows : Rows) (b s : Option Found) → NoAsk (met f (sweep rank rows) b s)
+  meets : (rows : Rows) (b s : Option Found) → NoAsk (met rank f rows b s)
   meets rows None s = expires _
   meets rows (Some b) None = expires _
   meets rows (Some b) (Some s) = cond_both (leb s.order.price b.order.price) (pairing f b s) (sweep rank rows) NoAsk (λ _. pairs b s _) (λ _. expires _)

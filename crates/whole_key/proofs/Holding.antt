@@ -1,5 +1,5 @@
 -- Between records the desk holds the summons of the open RFE, or a blank where none is open.
-use Rattle.std.proofs.Common.{◌≡◌, ℕ, ◌<◌, true, false, eqb, ltb, ◌≢◌, ◌⊎◌, List, length, Ok, Err, sym, refl, ap, ◌∙◌, subst, ⊎_elim, arith}
+use Rattle.std.proofs.Common.{◌≡◌, ℕ, ◌<◌, true, false, eqb, ltb, ◌≢◌, List, length, Ok, Err, sym, refl, ap, ◌∙◌, subst, ⊎_elim, arith}
 use Rattle.std.proofs.lemmas.Bool.{cases_eq, cond_both, cond-true, eqb-false, eqb-true, lt-ltb}
 use Rattle.book.specs.Lowered.{Lowered, LoweredQuote}
 use Rattle.book.specs.Picks.{reaches}

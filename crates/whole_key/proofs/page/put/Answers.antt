@@ -5,8 +5,8 @@ use Rattle.whole_key.proofs.page.put.Goals as goal
 pub returns : goal.returns
 returns c =
     let at = 40 * c.args.at in
-    let new = c.copy-from-slice.new.self in
+    let new = c.copy_from_slice.new.self in
     let size : at + 40 ≡ at + length new = omega arith in
     let room : at ≤ length c.args.page.now = omega arith in
     take-put_mid at ((at + 40) - at) c.args.page.now new (at + 40) size room
-    ∙ ap (λ z. take at c.args.page.now ++ z) (c.copy-from-slice.ensures.after ∙ c.write.ensures.is)
+    ∙ ap (λ z. take at c.args.page.now ++ z) (c.copy_from_slice.ensures.after ∙ c.write.ensures.is)

@@ -8,6 +8,6 @@ pub returns : goal.returns
 returns c =
     record {
       few = omega arith;
-      text = put_behind c.put-told-at.new.page c.put-report.new.page c.put-told-at.result c.put-report.result
-          (told_lines (take c.args.answer.slips c.args.paper.now) c.args.answer) (report_lines c.args.report.now) c.put-told-at.ensures.text c.put-report.ensures.text;
+      text = put_behind c.put_told-at.new.page c.put_report.new.page c.put_told-at.result c.put_report.result
+          (told_lines (take c.args.answer.slips c.args.paper.now) c.args.answer) (report_lines c.args.report.now) c.put_told-at.ensures.text c.put_report.ensures.text;
     }

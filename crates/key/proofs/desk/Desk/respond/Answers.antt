@@ -2,13 +2,13 @@ use Rattle.std.proofs.Common.{rules}
 use Rattle.key.specs.Desks.{responded}
 use Rattle.key.proofs.desk.Desk.respond.Goals as goal
 
-pub returns-in-err-line : goal.returns-in-err-line
+pub returns-in_err-line : goal.returns-in_err-line
 unfolding responded
-returns-in-err-line c = search rules
+returns-in_err-line c = search rules
 
-pub returns-in-err-request : goal.returns-in-err-request
+pub returns-in_err-request : goal.returns-in_err-request
 unfolding responded
-returns-in-err-request c = search rules
+returns-in_err-request c = search rules
 
 pub returns-in-Open : goal.returns-in-Open
 unfolding responded

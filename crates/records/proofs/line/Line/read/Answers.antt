@@ -17,8 +17,8 @@ returns-in-len2-up c =
     let is = c.body.ensures ∙ apart c.args.bytes.now h in
     record { is = is; exact = exactly c.args.bytes.now _ is }
 
-pub returns-in-default : goal.returns-in-default
-returns-in-default c =
+pub returns-in_default : goal.returns-in_default
+returns-in_default c =
     let h : length c.args.bytes.now < 2 = omega (arith, ltb-true) in
     let is = sym (short c.args.bytes.now h) in
     record { is = is; exact = exactly c.args.bytes.now _ is }

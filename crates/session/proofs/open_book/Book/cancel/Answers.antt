@@ -11,10 +11,10 @@ cancel-requires g c =
     let past = c.args.self.now.past in
     record { bounded = bounded_by s past; few = cancel_fits_by s d (g.met.R.Ranking.lawful t.ranking) past }
 
-pub invariant-of-self : goal.invariant-of-self
+pub invariant_of-self : goal.invariant_of-self
 unfolding yields
-invariant-of-self g c =
+invariant_of-self g c =
     let t = c.args.self.now.terms in
     let d = day_of g.S.Sheet.means g.R.Ranking.ranks t in
     let l = lawful_day g.S.Sheet.means g.R.Ranking.ranks g.met.S.Sheet.lawful g.met.R.Ranking.lawful t in
-    (called c.args.self.now.state d l (Cancel c.args.sender c.args.ticket) c.args.out.now 0 _ c.cancel.ensures.state c.args.self.now.past, tt)
+    record { past = called c.args.self.now.state d l (Cancel c.args.sender c.args.ticket) c.args.out.now 0 _ c.cancel.ensures.state c.args.self.now.past }

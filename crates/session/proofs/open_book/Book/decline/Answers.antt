@@ -8,16 +8,16 @@ use Rattle.session.proofs.open_book.Book.decline.Goals as goal
 pub decline-requires : goal.decline-requires
 decline-requires g c = bounded_by c.args.self.now.state c.args.self.now.past
 
-pub invariant-of-self : goal.invariant-of-self
+pub invariant_of-self : goal.invariant_of-self
 unfolding yields
-invariant-of-self g c =
+invariant_of-self g c =
     let t = c.args.self.now.terms in
     let d = day_of g.S.Sheet.means g.R.Ranking.ranks t in
     let l = lawful_day g.S.Sheet.means g.R.Ranking.ranks g.met.S.Sheet.lawful g.met.R.Ranking.lawful t in
-    (called c.args.self.now.state d l Decline c.args.out.now c.args.summons.now.number _ c.decline.ensures.state c.args.self.now.past, tt)
+    record { past = called c.args.self.now.state d l Decline c.args.out.now c.args.summons.now.number _ c.decline.ensures.state c.args.self.now.past }
 
-pub returns-in-err-answer : goal.returns-in-err-answer
-returns-in-err-answer g c =
+pub returns-in_err-answer : goal.returns-in_err-answer
+returns-in_err-answer g c =
     let d = day_of g.S.Sheet.means g.R.Ranking.ranks c.args.self.now.terms in
     record {
       value = search rules;

@@ -6,10 +6,10 @@ use Rattle.session.proofs.open_book.Book.withdraw.Goals as goal
 pub withdraw-requires : goal.withdraw-requires
 withdraw-requires g c = bounded_by c.args.self.now.state c.args.self.now.past
 
-pub invariant-of-self : goal.invariant-of-self
+pub invariant_of-self : goal.invariant_of-self
 unfolding yields
-invariant-of-self g c =
+invariant_of-self g c =
     let t = c.args.self.now.terms in
     let d = day_of g.S.Sheet.means g.R.Ranking.ranks t in
     let l = lawful_day g.S.Sheet.means g.R.Ranking.ranks g.met.S.Sheet.lawful g.met.R.Ranking.lawful t in
-    (called c.args.self.now.state d l Withdraw c.args.out.now 0 _ c.withdraw.ensures.state c.args.self.now.past, tt)
+    record { past = called c.args.self.now.state d l Withdraw c.args.out.now 0 _ c.withdraw.ensures.state c.args.self.now.past }

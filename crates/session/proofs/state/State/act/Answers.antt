@@ -3,17 +3,17 @@ use Rattle.session.specs.Terms.{day_of}
 use Rattle.session.proofs.Cancels.{cancel_asked, unreached_few}
 use Rattle.session.proofs.state.State.act.Goals as goal
 
-pub overflow-add-result : goal.overflow-add-result
-overflow-add-result g c =
+pub overflow_add-result : goal.overflow_add-result
+overflow_add-result g c =
     omega (
       arith,
-      c.take-out-first.ensures.count,
-      c.end-unreached.ensures.count,
-      unreached_few (day_of g.S.Sheet.means g.R.Ranking.ranks c.args.terms.now) c.take-out-first.new.self c.in-Asked-Cancel.quote,
+      c.take_out-first.ensures.count,
+      c.end_unreached.ensures.count,
+      unreached_few (day_of g.S.Sheet.means g.R.Ranking.ranks c.args.terms.now) c.take_out-first.new.self c.in-Asked-Cancel.quote,
     )
 
 pub returns-in-Asked-Cancel : goal.returns-in-Asked-Cancel
 returns-in-Asked-Cancel g c =
     cancel_asked (day_of g.S.Sheet.means g.R.Ranking.ranks c.args.terms.now) c.args.self.now c.in-Asked-Cancel.found c.in-Asked-Cancel.quote c.in-Asked-Cancel.field-1-0 c.args.act
-    c.in-Asked-Cancel.is-0 c.in-Asked-Cancel.is-1 c.take-out-first.new.self c.end-unreached.new.self c.args.out.now c.take-out-first.new.out c.end-unreached.new.out
-    c.take-out-first.result c.end-unreached.result c.requires c.take-out-first.ensures c.end-unreached.ensures
+    c.in-Asked-Cancel.is-0 c.in-Asked-Cancel.is-1 c.take_out-first.new.self c.end_unreached.new.self c.args.out.now c.take_out-first.new.out c.end_unreached.new.out
+    c.take_out-first.result c.end_unreached.result c.requires c.take_out-first.ensures c.end_unreached.ensures

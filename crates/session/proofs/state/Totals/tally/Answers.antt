@@ -16,10 +16,10 @@ loop-slip-preserved c =
     let o = sum_by-drop_more out_on c.args.slips.now c.loop-slip.slip-index (Trade 0 0 0 0) t in
     let i = c.loop-slip.invariant in (
       i.0,
-      omega (arith, d, c.done-on.ensures.is, i.1),
-      omega (arith, o, c.out-on.ensures.is, i.2),
-      omega (arith, c.done-on.ensures.low, i.3),
-      omega (arith, c.out-on.ensures.low, i.4),
+      omega (arith, d, c.done_on.ensures.is, i.1),
+      omega (arith, o, c.out_on.ensures.is, i.2),
+      omega (arith, c.done_on.ensures.low, i.3),
+      omega (arith, c.out_on.ensures.low, i.4),
     )
 
 pub returns : goal.returns

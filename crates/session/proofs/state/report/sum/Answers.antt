@@ -10,7 +10,7 @@ loop-row-preserved c =
     let t : c.loop-row.row-index < length c.args.rows.now = omega arith in
     let s = sum_by-drop_more one c.args.rows.now c.loop-row.row-index None t in
     let p = sum_by-drop_more pieces_in c.args.rows.now c.loop-row.row-index None t in
-    let told = c.left-in-left.ensures in
+    let told = c.left_in-left.ensures in
     (omega (arith, s, told.orders), omega (arith, p, told.pieces), omega (arith, told.single), omega (arith, told.low))
 
 pub returns : goal.returns

@@ -2,9 +2,9 @@ use Rattle.std.proofs.Common.{rules}
 use Rattle.whole_key.specs.Desks.{responded}
 use Rattle.whole_key.proofs.desk.Desk.respond.Goals as goal
 
-pub returns-in-err-request : goal.returns-in-err-request
+pub returns-in_err-request : goal.returns-in_err-request
 unfolding responded
-returns-in-err-request c = search rules
+returns-in_err-request c = search rules
 
 pub returns : goal.returns
 unfolding responded

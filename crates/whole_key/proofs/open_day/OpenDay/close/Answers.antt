@@ -11,7 +11,7 @@ pub returns : goal.returns
 returns c =
     let s = seat_of c.args.self in
     let told = counted s.day (ranking_lawful c.args.self.book.terms.ranking) s.state c.args.self.book.past s.held Decline in
-    let some : s.held ≢ 0 = λ e. eqb-false s.held 0 (sym c.holds-is-blank.ensures ∙ c.if-is-blank.false) e in
+    let some : s.held ≢ 0 = λ e. eqb-false s.held 0 (sym c.holds-is_blank.ensures ∙ c.if-is_blank.false) e in
     let room : length c.args.paper.now ≡ 129 = omega arith in
     let done = c.in-Ok.ensures in
     ends s.day s.state s.held c.in-Ok.answer c.decline.new.self.state c.args.paper.now c.decline.new.out c.close-in-Ok.result
