@@ -1,6 +1,6 @@
 -- The moves of a cross one after another: what each does, and that they come to an end.
 use Rattle.std.proofs.Common.{◌≡◌, ℕ, zero, suc, ◌+◌, ◌<◌, ◌≤◌, min, Bool, true, false, cond, ◌||◌, ltb, ◌≢◌, ◌⊎◌, List, [], ◌∷◌, ◌++◌, map, length, Some, None, sum_by, Option, sym, refl, ap, ◌∙◌, subst, inl, inr, ⊎_elim, arith, length-append}
-use Rattle.std.specs.List.{AllByRecursion as All}
+use Rattle.std.specs.List.{AllByRecursion}
 use Rattle.std.proofs.ByRecursion.{All-append}
 use Rattle.std.proofs.lemmas.Bool.{cases_eq, cond_both}
 use Rattle.std.proofs.lemmas.List.Sums.{sum_by-append}
@@ -142,7 +142,7 @@ module _ (rank : Rank) (f : Frame) (b : Board) where
   step_price test (ByTaker q Sell) x y hx hy = hx
   step_price test ByPair x y hx hy = cond_both (ltb x.number y.number) _ _ (λ z. test z ≡ true) (λ _. hx) (λ _. hy)
 
-  slip_price : (test : ℕ → Bool) → AllPrices test b → (m : Move) → Good rank f b m → All (TradePasses test) (slip m)
+  slip_price : (test : ℕ → Bool) → AllPrices test b → (m : Move) → Good rank f b m → AllByRecursion (TradePasses test) (slip m)
   slip_price test h Stop g = tt
   slip_price test h (Ask t) g = tt
   slip_price test h (Deal x y p n) g =

@@ -1,6 +1,6 @@
 -- What holds of every cross.
 use Rattle.std.specs.Prelude.{◌≡◌, ℕ, ◌+◌, ◌≤◌, Bool, length, Some, None, Option}
-use Rattle.std.specs.List.{AllByRecursion as All}
+use Rattle.std.specs.List.{AllByRecursion}
 use Rattle.book.specs.Proposals.{Quote}
 use Rattle.book.specs.Ranks.{Rank, RankLaw}
 use Rattle.book.specs.Tables.{standing}
@@ -20,7 +20,7 @@ quotes (Some q) = 1
 pub record CrossLaws (rank : Rank) (f : Frame) (b : Board) (run : Run) : Type 0 where
   pub course : Course rank f b run
   pub ledger : Ledger b.table.rows run.slips run.board.table.rows
-  pub prices : (test : ℕ → Bool) → AllPrices test b → All (TradePasses test) run.slips
+  pub prices : (test : ℕ → Bool) → AllPrices test b → AllByRecursion (TradePasses test) run.slips
   -- the moves were enough: where no RFE is asked, none is left
   pub ends : run.asked ≡ None → next rank f run.board ≡ Stop
   -- each slip takes an order or the quote away

@@ -9,4 +9,3 @@ pub mod Refusals
 pub mod Senders
 pub mod Sheets
 pub mod TableRules
-pub mod Lookups

@@ -1,6 +1,6 @@
 -- What every ticket keeps, all tickets together keep.
 use Rattle.std.proofs.Common.{◌≡◌, ℕ, zero, suc, ◌+◌, ◌<◌, ◌≤◌, cond, eqb, ◌≢◌, List, [], ◌∷◌, map, length, Some, None, sum_by, Option, sym, refl, ap, ◌∙◌, subst, ⊎_elim, arith}
-use Rattle.std.specs.List.{AllByRecursion as All}
+use Rattle.std.specs.List.{AllByRecursion}
 use Rattle.std.proofs.lemmas.List.{length-map}
 use Rattle.std.proofs.lemmas.List.Sums.{sum_by-cons}
 use Rattle.std.proofs.lemmas.Bool.{cases_eq, cond_both, cond-false, cond-true, eq-eqb, ne_eqb}
@@ -64,7 +64,7 @@ unfolding spread
 spread_zero k zero = refl
 spread_zero k (suc n) = omega (arith, spread_zero k n, cond-false (eqb 0 (suc n)) k 0 (ne_eqb 0 (suc n) (λ e. omega (arith, e))))
 
-spread_list : {X : Type 0} (g : ℕ → X → ℕ) (h : X → ℕ) (n : ℕ) (xs : List X) → All (λ x. spread (λ t. g t x) n ≡ h x) xs → spread
+spread_list : {X : Type 0} (g : ℕ → X → ℕ) (h : X → ℕ) (n : ℕ) (xs : List X) → AllByRecursion (λ x. spread (λ t. g t x) n ≡ h x) xs → spread
     (λ t. sum_by (g t) xs) n ≡ sum_by h xs
 spread_list g h n [] a = spread_none n
 spread_list g h n (x ∷ xs) a =
@@ -96,15 +96,15 @@ out_spread : (n : ℕ) (x : Slip) → tickets_on x ≤ n → OutNamed x → spre
 out_spread n (Trade price pieces buyer seller) h z = spread_none n
 out_spread n (Out cause ticket pieces) h z = spread_hit ticket pieces n z h
 
-below : (n : ℕ) (xs : List Slip) → sum_by tickets_on xs ≤ n → All (λ x. tickets_on x ≤ n) xs
+below : (n : ℕ) (xs : List Slip) → sum_by tickets_on xs ≤ n → AllByRecursion (λ x. tickets_on x ≤ n) xs
 below n [] h = tt
 below n (x ∷ xs) h = (omega (arith, sum_by-cons tickets_on x xs), below n xs (omega (arith, sum_by-cons tickets_on x xs)))
 
-trades_spread : (n : ℕ) (xs : List Slip) → All (λ x. tickets_on x ≤ n) xs → All (λ x. spread (λ t. traded_by t x) n ≡ done_on x) xs
+trades_spread : (n : ℕ) (xs : List Slip) → AllByRecursion (λ x. tickets_on x ≤ n) xs → AllByRecursion (λ x. spread (λ t. traded_by t x) n ≡ done_on x) xs
 trades_spread n [] a = tt
 trades_spread n (x ∷ xs) a = (trade_spread n x a.0, trades_spread n xs a.1)
 
-outs_spread : (n : ℕ) (xs : List Slip) → All (λ x. tickets_on x ≤ n) xs → All OutNamed xs → All (λ x. spread (λ t. out_by t x) n ≡ out_on x) xs
+outs_spread : (n : ℕ) (xs : List Slip) → AllByRecursion (λ x. tickets_on x ≤ n) xs → AllByRecursion OutNamed xs → AllByRecursion (λ x. spread (λ t. out_by t x) n ≡ out_on x) xs
 outs_spread n [] a z = tt
 outs_spread n (x ∷ xs) a z = (out_spread n x a.0 z.0, outs_spread n xs a.1 z.1)
 
@@ -114,14 +114,14 @@ Named rows = (i : ℕ) (o : Order) → At rows i o → o.ticket ≢ 0
 abbrev pub Low : Rows → ℕ → Type 0
 Low rows n = (i : ℕ) (o : Order) → At rows i o → o.ticket ≤ n
 
-rows_spread : (n : ℕ) (rows : Rows) → Named rows → Low rows n → All (λ x. spread (λ t. worth t x) n ≡ pieces_in x) rows
+rows_spread : (n : ℕ) (rows : Rows) → Named rows → Low rows n → AllByRecursion (λ x. spread (λ t. worth t x) n ≡ pieces_in x) rows
 rows_spread n [] z l = tt
 rows_spread n (None ∷ rs) z l = (spread_none n, rows_spread n rs (λ i o a. z (suc i) o a) (λ i o a. l (suc i) o a))
 rows_spread n (Some o ∷ rs) z l =
     (spread_hit o.ticket o.pieces n (z 0 o refl) (l 0 o refl), rows_spread n rs (λ i o a. z (suc i) o a) (λ i o a. l (suc i) o a))
 
 pub balance : (m : ℕ) (rows rows' : Rows) (slips : List Slip) → Named rows → Named rows' → Low rows m → Low rows' m →
-    All OutNamed slips → Ledger rows slips rows' →
+    AllByRecursion OutNamed slips → Ledger rows slips rows' →
     held_in rows ≡ sum_by done_on slips + sum_by out_on slips + held_in rows'
 balance m rows rows' slips z z' l l' outs h =
     let n = sum_by tickets_on slips + m in
@@ -161,7 +161,7 @@ past_named (Trade price pieces buyer seller) b z =
 past_named (Out cause ticket pieces) b z = named_map (without ticket) refl (without_ticket ticket) b.table.rows z
 
 pub outs_named : (rank : Rank) (f : Frame) (b : Board) (slips : List Slip) → Named b.table.rows → FairSlips rank f b slips →
-    All OutNamed slips
+    AllByRecursion OutNamed slips
 outs_named rank f b [] z h = tt
 outs_named rank f b (Trade price pieces buyer seller ∷ xs) z h =
     (tt, outs_named rank f (past (Trade price pieces buyer seller) b) xs (past_named (Trade price pieces buyer seller) b z) h.1)

@@ -1,6 +1,6 @@
 -- A cross in a good book leaves a good book, and keeps the laws.
 use Rattle.std.proofs.Common.{◌≡◌, ℕ, ◌+◌, ◌≤◌, Bool, true, false, ◌||◌, List, [], ◌∷◌, length, Some, None, sum_by, Option, sym, refl, ap, ◌∙◌, subst, arith}
-use Rattle.std.specs.List.{AllByRecursion as All}
+use Rattle.std.specs.List.{AllByRecursion}
 use Rattle.std.proofs.lemmas.Bool.{cond_both, or_from}
 use Rattle.book.specs.Asked as book
 use Rattle.book.specs.Boards.{Board}
@@ -152,7 +152,7 @@ pub record Crossing (d : Day) (test : ℕ → Bool) (s : State) (gov : Quote) (s
   pub fit : length a.slips ≤ 129
   pub shrinks : Shrinks a.state.table.rows s.table.rows
   pub fair : FairSlips d.rank (frame_of d s gov entered) (board_of s.table.rows stands false) a.slips
-  pub prices : All (TradePasses test) a.slips
+  pub prices : AllByRecursion (TradePasses test) a.slips
   pub left : quote_of a.state.phase ≡ quote_left a.slips stands
   pub leaves : a.state.table.rows ≡ remaining a.slips s.table.rows
   pub asks : (q : Quote) (r : Rfe) → a.state.phase ≡ Asked q r →

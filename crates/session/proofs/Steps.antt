@@ -1,6 +1,6 @@
 -- One call of a story: what it keeps, what it accounts for, and that its slips are fair.
 use Rattle.std.proofs.Common.{◌≡◌, ℕ, ◌+◌, ◌*◌, ◌<◌, ◌≤◌, Bool, true, false, cond, not, ◌&&◌, eqb, ◌≢◌, ◌⊎◌, List, [], ◌∷◌, ◌++◌, length, Some, Ok, sum_by, Option, sym, refl, ap, ◌∙◌, subst, inl, inr, ⊎_elim, arith}
-use Rattle.std.specs.List.{AllByRecursion as All}
+use Rattle.std.specs.List.{AllByRecursion}
 use Rattle.std.proofs.ByRecursion.{All-append}
 use Rattle.std.proofs.lemmas.List.Sums.{sum_by-append}
 use Rattle.std.proofs.lemmas.Bool.{or_from, or_parts, or_right}
@@ -81,7 +81,7 @@ pub record Step (d : Day) (test : ℕ → Bool) (s : State) (c : Call) (was : Bo
       (out_by t) y.slips + left t y.state.table.rows
   pub enters : (i : ℕ) (o : Order) → At y.state.table.rows i o → WasEntered o c y.reply ⊎ Stood s.table.rows i o
   pub fair : FairReply d s c y.reply y.slips
-  pub prices : All (TradePasses test) y.slips
+  pub prices : AllByRecursion (TradePasses test) y.slips
   pub leaves : LeavesReply c y.reply s.table.rows y.slips y.state.table.rows
   pub asks : AsksBy d c s y.state
   pub halts : HaltsBy s y.state y.slips
@@ -237,7 +237,7 @@ module _ (d : Day) (test : ℕ → Bool) (s : State) (G : Good test s.table.rows
       (is_asked after.phase ≡ false → is_asked s.phase ≡ false) → is_quote c ≡ false →
       ((t : ℕ) → left t s.table.rows ≡ sum_by (traded_by t) slips + sum_by (out_by t) slips + left t after.table.rows) →
       held_in s.table.rows ≡ sum_by done_on slips + sum_by out_on slips + held_in after.table.rows →
-      FairAnswer d s c (answer_of after (length slips) 0) slips → All (TradePasses test) slips →
+      FairAnswer d s c (answer_of after (length slips) 0) slips → AllByRecursion (TradePasses test) slips →
       after.table.rows ≡ remaining slips (begun c (answer_of after (length slips) 0) s.table.rows) →
       ((q : Quote) (r : Rfe) → after.phase ≡ Asked q r → s.phase ≡ Asked q r) →
       ((until : ℕ) → after.phase ≡ Halted until → s.phase ≡ Halted until) →
@@ -301,7 +301,7 @@ module _ (d : Day) (test : ℕ → Bool) (s : State) (G : Good test s.table.rows
       (Answered (answer_of p n number))) ⊎ Stood s.table.rows i o) →
       ((p : State) (n : ℕ) (ss : List Slip) → FairSlips d.rank (frame_of d s1 gov entered)
       (board_of s1.table.rows stands false) ss → FairAnswer d s c (answer_of p n number) (pre ++ ss)) →
-      All (TradePasses test) pre →
+      AllByRecursion (TradePasses test) pre →
       ((p : State) (n : ℕ) (ss : List Slip) → remaining ss s1.table.rows ≡ remaining (pre ++ ss)
       (begun c (answer_of p n number) s.table.rows)) →
       ((s' : State) (q : Quote) (r : Rfe) → book.Asked d.rank (frame_of d s1 gov entered)

@@ -1,7 +1,7 @@
 -- Every story keeps the laws.
 use Rattle.std.proofs.Common.{◌≡◌, ℕ, zero, suc, ◌<◌, ◌≤◌, Bool, true, List, [], ◌∷◌, ◌++◌, length, get_or, take, drop, replicate, None, sum_by, Option, sym, refl, ap, ◌∙◌, subst, inl, inr, ⊎_elim, arith}
 use lib.Seq.{length-sets, sets-eq}
-use Rattle.std.specs.List.{AllByRecursion as All}
+use Rattle.std.specs.List.{AllByRecursion}
 use Rattle.std.proofs.ByRecursion.{All-weaker}
 use Rattle.std.proofs.lemmas.List.{drop_at, take_at}
 use Rattle.std.proofs.lemmas.List.Sums.{sum_by-cons}
@@ -64,7 +64,7 @@ filled slips paper h =
     sets-eq slips paper 0 (omega (arith, h)) ∙ ap (λ n. slips ++ drop n paper) (omega arith)
 
 abbrev Below : List Event → ℕ → Type 0
-Below es n = All (λ x. number_by x.call x.reply ≤ n) es
+Below es n = AllByRecursion (λ x. number_by x.call x.reply ≤ n) es
 
 entered_still : (o was : Order) (es : List Event) → Lowered o was → EnteredIn was es → EnteredIn o es
 entered_still o was [] l h = h
@@ -90,7 +90,7 @@ pub record Kept (test : ℕ → Bool) (reference reply : ℕ) (es : List Event) 
 -- what an event keeps by its own day
 pub record Own (d : Day) (test : ℕ → Bool) (e : Event) : Type 0 where
   pub fair : FairEvent d e
-  pub prices : All (TradePasses test) (slips_of e)
+  pub prices : AllByRecursion (TradePasses test) (slips_of e)
   pub phases : PhasedEvent d e
 
 module _ (d : Day) (test : ℕ → Bool) (reference : ℕ) (es : List Event) (s : State) (K : Kept test reference d.reply es s)
@@ -110,7 +110,7 @@ module _ (d : Day) (test : ℕ → Bool) (reference : ℕ) (es : List Event) (s 
   own =
       record {
         fair = subst (λ z. FairReply d s c y.reply z) (sym read) S.fair;
-        prices = subst (λ z. All (TradePasses test) z) (sym read) S.prices;
+        prices = subst (λ z. AllByRecursion (TradePasses test) z) (sym read) S.prices;
         phases = record {
           asks = S.asks;
           quotes = S.quotes;
@@ -228,7 +228,7 @@ begins_kept test reference reply =
 
 -- ---- stories, over one sheet and one ranking
 module _ (d : Day) (L : RankLaw d.rank) where
-  pub keeps : {es : List Event} {s : State} → Story d es s → Kept (in_limit1 d) d.reference d.reply es s × All (Own d (in_limit1 d)) es
+  pub keeps : {es : List Event} {s : State} → Story d es s → Kept (in_limit1 d) d.reference d.reply es s × AllByRecursion (Own d (in_limit1 d)) es
   keeps opened = (begins_kept (in_limit1 d) d.reference d.reply, tt)
   keeps (further {es} {s} st c paper held) =
       let K = keeps st in
@@ -256,7 +256,7 @@ abbrev OwnDay : ℕ → ℕ → Event → Type 0
 OwnDay reference reply e = (d : Day) × LawfulDay reference reply d × FairEvent d e × PhasedEvent d e
 
 pub history_keeps : (reference reply : ℕ) {es : List Event} {s : State} → History reference reply es s →
-    Kept any_price reference reply es s × All (OwnDay reference reply) es
+    Kept any_price reference reply es s × AllByRecursion (OwnDay reference reply) es
 unfolding any_price
 history_keeps reference reply begun = (begins_kept any_price reference reply, tt)
 history_keeps reference reply (more {es} {s} st d l c paper held) =

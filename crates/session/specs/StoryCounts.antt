@@ -1,6 +1,6 @@
 -- What a story gave out, accepted, traded and took out.
 use Rattle.std.specs.Prelude.{◌≡◌, ℕ, ◌<◌, ◌≤◌, cond, ◌≢◌, ◌⊎◌, List, [], ◌∷◌, take, sum_by, ◌==◌}
-use Rattle.std.specs.List.{AllByRecursion as All}
+use Rattle.std.specs.List.{AllByRecursion}
 use Rattle.book.specs.Ledger.{out_by, traded_by}
 use Rattle.book.specs.declared.order.Order.{Order}
 use Rattle.book.specs.declared.slip.Slip.{Slip}
@@ -47,7 +47,7 @@ given_out es = sum_by (λ e. by_numbered (λ _. 1) e.call e.reply) es
 -- each number is given out once: it is above all before it
 abbrev pub Rising : List Event → Type 0
 Rising [] = Unit {0}
-Rising (e ∷ es) = (number_by e.call e.reply ≢ 0 → All (λ x. number_by x.call x.reply < number_by e.call
+Rising (e ∷ es) = (number_by e.call e.reply ≢ 0 → AllByRecursion (λ x. number_by x.call x.reply < number_by e.call
     e.reply) es) × Rising es
 
 -- ---- pieces

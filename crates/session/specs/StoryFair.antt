@@ -1,6 +1,6 @@
 -- The slips of a call, judged by the quote that governs it.
 use Rattle.std.specs.Prelude.{◌≡◌, ℕ, Bool, true, false, cond, List, [], ◌∷◌, map, Some, None, Option}
-use Rattle.std.specs.List.{AllByRecursion as All}
+use Rattle.std.specs.List.{AllByRecursion}
 use Rattle.figures.specs.Limits.{is_within}
 use Rattle.book.specs.FairSlips.{FairSlips}
 use Rattle.book.specs.Makes.{board_of}
@@ -74,4 +74,4 @@ abbrev pub in_limit1 : Day → ℕ → Bool
 in_limit1 d price = is_within price d.reference (d.means d.reference).limit1
 
 abbrev pub PricedEvent : Day → Event → Type 0
-PricedEvent d e = All (TradePasses (in_limit1 d)) (slips_of e)
+PricedEvent d e = AllByRecursion (TradePasses (in_limit1 d)) (slips_of e)

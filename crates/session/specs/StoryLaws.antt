@@ -1,6 +1,6 @@
 -- What holds of every story.
 use Rattle.std.specs.Prelude.{◌≡◌, ℕ, ◌+◌, ◌*◌, ◌≤◌, false, ◌≢◌, List, [], ◌∷◌, length, drop}
-use Rattle.std.specs.List.{AllByRecursion as All}
+use Rattle.std.specs.List.{AllByRecursion}
 use Rattle.book.specs.Quiet.{Quiet}
 use Rattle.book.specs.Ranks.{RankLaw}
 use Rattle.book.specs.Tables.{At, left}
@@ -86,30 +86,30 @@ pub record Common (reference reply : ℕ) (es : List Event) (s : State) : Type 0
   -- each order that stands is what was entered
   pub entered : (i : ℕ) (o : Order) → At s.table.rows i o → EnteredIn o es
   -- what stands is what the slips leave
-  pub leaves : All LeavesEvent es
+  pub leaves : AllByRecursion LeavesEvent es
   -- outside an RFE, and outside the stretch from a halt to the next accepted quote, nothing more could trade
   pub quiet : is_asked s.phase ≡ false → stretch es ≡ false → Quiet s.table.rows (quote_of s.phase)
   -- execute-and-cancel orders stand only during an RFE
   pub brief : is_asked s.phase ≡ false → (i : ℕ) (o : Order) → At s.table.rows i o → o.brief ≡ false
   -- answers tell the book after the call; a refusal leaves book, list and summons as they were
   pub replies : AllReply es
-  pub writes : All Writes es
-  pub spares : All (λ e. Spares e.reply e) es
+  pub writes : AllByRecursion Writes es
+  pub spares : AllByRecursion (λ e. Spares e.reply e) es
   pub summonses : AllSummons es
   -- an RFE goes on until it has to end; it and a halt are over in time
-  pub rfes : All RfeEvent es
-  pub times : All TimedEvent es
+  pub rfes : AllByRecursion RfeEvent es
+  pub times : AllByRecursion TimedEvent es
   pub timely : Timely reply s
   pub sums : Sums es s
 
 pub record Laws (d : Day) (es : List Event) (s : State) : Type 0 where
   pub common : Common d.reference d.reply es s
   -- each slip is as it has to be at its moment: its price, who was first, and why an order goes out
-  pub fair : All (FairEvent d) es
+  pub fair : AllByRecursion (FairEvent d) es
   -- each trade's price is within Limit 1
-  pub prices : All (PricedEvent d) es
+  pub prices : AllByRecursion (PricedEvent d) es
   -- an RFE or a halt has its reason
-  pub phases : All (PhasedEvent d) es
+  pub phases : AllByRecursion (PhasedEvent d) es
 
 -- whatever the sheet means, and whatever lawful ranking there is
 abbrev pub Every-story : Type 0
@@ -118,7 +118,7 @@ Every-story = (d : Day) → RankLaw d.rank → (es : List Event) (s : State) →
 -- what holds of a history: each event keeps its own day's laws
 pub record HistoryLaws (reference reply : ℕ) (es : List Event) (s : State) : Type 0 where
   pub common : Common reference reply es s
-  pub own : All (λ e. (d : Day) × LawfulDay reference reply d × FairEvent d e × PhasedEvent d e) es
+  pub own : AllByRecursion (λ e. (d : Day) × LawfulDay reference reply d × FairEvent d e × PhasedEvent d e) es
 
 abbrev pub Every-history : Type 0
 Every-history = (reference reply : ℕ) (es : List Event) (s : State) → History reference reply es s → HistoryLaws reference reply es s

@@ -2,7 +2,7 @@
 ghost use Rattle.std.specs.Prelude.{◌≡◌, ◌≤◌, Some, None, MatchResult};
 ghost use Rattle.figures.specs.Notices.{notice_fault};
 ghost use Rattle.figures.specs.Sheets.{measures};
-ghost use Rattle.std.proofs.Common.{rules, arith};
+ghost use Rattle.std.proofs.Common.{rules};
 
 use crate::fault::{FiguresFault, Term};
 use crate::sheet::Sheet;
@@ -43,7 +43,7 @@ impl Notice {
 impl Sheet for Notice {
     ghost means = { λ n _. measures n.one n.two n.most };
 
-    ghost lawful = { first_of (Prim.search rules, Prim.grind (arith, Self.row.coded.inj)) };
+    ghost lawful = { Prim.search rules };
 
     fn limit_one(&self, reference: u32) -> u32 {
         self.one

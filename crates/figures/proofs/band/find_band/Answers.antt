@@ -2,7 +2,7 @@ use Rattle.std.proofs.Common.{◌≡◌, ℕ, List, sym, ◌∙◌, subst}
 use Rattle.std.proofs.lemmas.List.{at_drop_all}
 use Rattle.figures.specs.Bands.{FirstReach, band_of}
 use Rattle.figures.specs.declared.band.Band.{Band}
-use Rattle.figures.specs.Lookups.{first_reach, hit, miss}
+use Rattle.figures.proofs.Lookups.{first_reach, hit, miss}
 use Rattle.figures.proofs.band.find_band.Goals as goal
 
 -- both clauses from the one equation

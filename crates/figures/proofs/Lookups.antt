@@ -1,8 +1,8 @@
 -- The lookup in a table of bands.
-use Rattle.std.specs.Prelude.{◌≡◌, ℕ, zero, suc, ◌+◌, ◌<◌, ◌≤◌, Bool, true, false, cond, ◌&&◌, List, [], ◌∷◌, length, get_or, drop, nat_le, slice_index_or, refl}
-use Rattle.std.proofs.Common.{sym, ap, ◌∙◌, suc-le-suc, le_of_suc-le-suc, not-suc-le-zero, zero-lt-suc, arith, le-leb}
+use Rattle.std.specs.Prelude.{◌≡◌, ℕ, zero, suc, ◌+◌, ◌<◌, ◌≤◌, true, false, cond, List, [], ◌∷◌, length, get_or, drop, nat_le, slice_index_or, refl}
+use Rattle.std.proofs.Common.{sym, ap, ◌∙◌, suc-le-suc, le_of_suc-le-suc, not-suc-le-zero, zero-lt-suc, le-leb}
 use Rattle.std.proofs.lemmas.List.{at_drop_more}
-use Rattle.std.proofs.lemmas.Bool.{cond_both, lt-leb}
+use Rattle.std.proofs.lemmas.Bool.{lt-leb}
 use Rattle.figures.specs.Bands.{FirstReach, band_of, reach_of}
 use Rattle.figures.specs.declared.band.Band.{Band}
 
@@ -34,19 +34,3 @@ module _ {T : Type 0} (above : T) (at : ℕ) where
 
   pub first_reach : (rows : List (Band T)) → FirstReach above rows at (band_of above rows at)
   first_reach rows = record { reached = reached rows; unreached = unreached rows }
-
--- the test passes at each row
-abbrev pub every : {T : Type 0} → (T → Bool) → List (Band T) → Bool
-every test [] = true
-every test (b ∷ bs) = test b.value && every test bs
-
-both : (a b : Bool) → (a && b) ≡ true → (a ≡ true) × (b ≡ true)
-both true b e = (refl, e)
-both false b e = absurd (grind arith)
-
--- a table's rule: what passes at each row, and above them all, passes at every place
-pub everywhere : {T : Type 0} (test : T → Bool) (above : T) (rows : List (Band T)) → test above ≡ true → every test rows ≡ true → (at : ℕ) → test (band_of above rows at) ≡ true
-everywhere test above [] a e at = a
-everywhere {T = T} test above (b ∷ bs) a e at =
-    let e2 = both (test b.value) (every test bs) e in
-    cond_both (nat_le at b.up_to) b.value (band_of above bs at) (λ (v : T). test v ≡ true) (λ _. e2.0) (λ _. everywhere test above bs a e2.1 at)
