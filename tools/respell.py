@@ -1,9 +1,10 @@
 #!/usr/bin/env python3
-"""Brings the repository's own definitions, fields and lemmas to snake case: `isFull` to `is_full`, `row-apart` to `row_apart`.
+"""Brings the repository's own definitions, fields and lemmas to snake case, `isFull` to `is_full`, `row-apart` to `row_apart`,
+and its types to camel case, `Only-cross` to `OnlyCross`.
 
 usage: python3 tools/respell.py        at the top, once, after the kit's port.py
 
-What it leaves: names of types and modules, names that Rattle makes (goals, invariants), names of the library,
+What it leaves: names of modules, names that Rattle makes (goals, invariants), names of the library,
 functions of src/, strings. It says where two names fall together, and then writes nothing.
 """
 
@@ -12,8 +13,9 @@ import os
 import re
 import sys
 
-WORD = re.compile(r"(?<![\w'-])[a-z][\w'-]*")
+WORD = re.compile(r"(?<![\w'-])[A-Za-z][\w'-]*")
 CAMEL = re.compile(r"[a-z][a-z0-9]*(?:[A-Z][A-Za-z0-9']*)+")
+TYPE = re.compile(r"^\s*(?:abbrev |unfoldable )?(?:pub )?(?:record |data )?([A-Z]\w*(?:-\w+)+) :.*Type \d$", re.M)
 DEFINED = re.compile(r"^\s*(?:abbrev |unfoldable )?(?:pub )?([a-z][\w'-]*) :", re.M)
 # names of Rattle's own or the library's that look like ours
 MADE = re.compile(r"(?:loop|returns|invariant|decreases|overflow|nonzero|bounds|in|if)-|.*-requires(?:-|$)")
@@ -29,6 +31,10 @@ def files(ends):
 def snake(name):
     name = re.sub(r"([A-Z])", lambda m: "_" + m.group(1).lower(), name)
     return name.replace("-", "_")
+
+
+def camel(name):
+    return "".join(part[0].upper() + part[1:] for part in name.split("-"))
 
 
 def read(path):
@@ -59,6 +65,9 @@ def renames(texts):
         for m in DEFINED.finditer(text):
             defined[m.group(1)].add(path)
     turned = {}
+    for text in texts.values():
+        for m in TYPE.finditer(text):
+            turned[m.group(1)] = camel(m.group(1))
     for word in words:
         if word in library or MADE.match(word):
             continue

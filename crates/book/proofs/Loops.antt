@@ -21,7 +21,7 @@ use Rattle.book.specs.Prices.{AllPrices, TradePasses}
 use Rattle.book.specs.Sound.{Sound}
 use Rattle.book.specs.Asked.{Asked}
 use Rattle.book.specs.Lowered.{LoweredQuote}
-use Rattle.book.specs.CrossLaws.{quotes, CrossLaws, Every-cross}
+use Rattle.book.specs.CrossLaws.{quotes, CrossLaws, EveryCross}
 use Rattle.book.proofs.Bests.{none_some}
 use Rattle.book.proofs.GoodMoves.{PartyAt, Pair, Good}
 use Rattle.book.proofs.NextMoves.{next_good}
@@ -272,5 +272,5 @@ module _ (rank : Rank) (f : Frame) where
       turn b n (next rank f b) (work rank f n (after (next rank f b) b)) S refl (next_good rank L f b S) le
       (λ s k. works L n (after (next rank f b) b) s k)
 
-pub every_cross : Every-cross
+pub every_cross : EveryCross
 every_cross rank L f b S = works rank f L 129 b S (omega (arith, S.rows.few, one_quote b.quote))

@@ -9,7 +9,7 @@ use Rattle.book.specs.FairSlips.{FairSlips}
 use Rattle.book.specs.Sound.{Sound}
 use Rattle.book.specs.Asked.{Asked}
 use Rattle.book.specs.Course.{Course}
-use Rattle.book.specs.CrossLaws.{Only-cross}
+use Rattle.book.specs.CrossLaws.{OnlyCross}
 use Rattle.book.proofs.NextMoves.{next_good}
 use Rattle.book.proofs.RowChanges.{some_stand}
 use Rattle.book.proofs.Parties.{many, sound_less}
@@ -101,6 +101,6 @@ module _ (rank : Rank) (L : RankLaw rank) (f : Frame) where
       let ih = only n ss (after m b) board asked (sound_less f (after m b) b (less rank f b m g) S) (omega (arith, fewer rank f b m g h)) rest in
       ap (before (s ∷ [])) ih ∙ ap (λ z. before z (work rank f n (after m b))) (sym e) ∙ sym (goes_before m b (work rank f n (after m b)) h)
 
-pub only_cross : Only-cross
+pub only_cross : OnlyCross
 only_cross rank L f b S run C =
     only rank L f 129 run.slips b run.board run.asked S (omega (arith, S.rows.few, one_quote b.quote)) C

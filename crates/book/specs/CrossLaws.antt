@@ -31,9 +31,9 @@ pub record CrossLaws (rank : Rank) (f : Frame) (b : Board) (run : Run) : Type 0 
   pub keeps_quote : KeepsQuote run.board.quote b.quote
   pub sound : Sound f run.board
 
-abbrev pub Every-cross : Type 0
-Every-cross = (rank : Rank) → RankLaw rank → (f : Frame) (b : Board) → Sound f b → CrossLaws rank f b (cross rank f b)
+abbrev pub EveryCross : Type 0
+EveryCross = (rank : Rank) → RankLaw rank → (f : Frame) (b : Board) → Sound f b → CrossLaws rank f b (cross rank f b)
 
 -- its course alone makes a run the cross: there is no other
-abbrev pub Only-cross : Type 0
-Only-cross = (rank : Rank) → RankLaw rank → (f : Frame) (b : Board) → Sound f b → (run : Run) → Course rank f b run → run ≡ cross rank f b
+abbrev pub OnlyCross : Type 0
+OnlyCross = (rank : Rank) → RankLaw rank → (f : Frame) (b : Board) → Sound f b → (run : Run) → Course rank f b run → run ≡ cross rank f b

@@ -4,6 +4,6 @@ use Rattle.book.specs.Firsts.{Found}
 use Rattle.book.specs.declared.fault.BookFault.{BookFault}
 use Rattle.book.specs.declared.fault.BookFault.TheVariants.{NoTicket}
 
-abbrev pub owned : Option Found → Result Found BookFault
-owned None = Err NoTicket
-owned (Some f) = Ok f
+abbrev pub owned_order : Option Found → Result Found BookFault
+owned_order None = Err NoTicket
+owned_order (Some f) = Ok f

@@ -1,17 +1,17 @@
 // What holds of every cross.
-ghost use Rattle.book.specs.CrossLaws.{Every-cross, Only-cross};
+ghost use Rattle.book.specs.CrossLaws.{EveryCross, OnlyCross};
 ghost use Rattle.book.specs.Teeth.{Teeth};
 
 // Every cross keeps the laws, under any lawful ranking.
 pub fn crosses_are_lawful() -> u8
-    ensures { Every-cross }
+    ensures { EveryCross }
 {
     0
 }
 
 // The laws leave one run of a board: no other keeps them.
 pub fn laws_leave_one_run() -> u8
-    ensures { Only-cross }
+    ensures { OnlyCross }
 {
     0
 }

@@ -2,7 +2,7 @@
 ghost use Rattle.std.specs.Prelude.{◌≡◌};
 ghost use Rattle.book.specs.Cancels.{cancelled, without};
 ghost use Rattle.book.specs.Firsts.{find, is_reached};
-ghost use Rattle.book.specs.Owned.{owned};
+ghost use Rattle.book.specs.Owned.{owned_order};
 ghost use Rattle.book.specs.Places.{blanked, empty_table, lowered, placed, table_of};
 ghost use Rattle.book.specs.Tables.{is_full, place, standing};
 
@@ -75,7 +75,7 @@ impl Table {
 
     // The same, or the fault that there is none.
     pub fn owned(&self, sender: u32, ticket: u32) -> Result<Found, BookFault>
-        ensures { result ≡ owned (find sender ticket self.now.rows) }
+        ensures { result ≡ owned_order (find sender ticket self.now.rows) }
     {
         match self.find(sender, ticket) {
             None => Err(BookFault::NoTicket),

@@ -9,7 +9,7 @@ use Rattle.figures.specs.declared.fault.Field.TheVariants as field
 use Rattle.figures.specs.declared.fault.FiguresFault.{FiguresFault}
 use Rattle.figures.specs.declared.fault.FiguresFault.TheVariants.{Beyond, Crossed, Pieces}
 use Rattle.book.specs.Admits.{Admitted, checked_then, numbered, order_admitted, quote_admitted}
-use Rattle.book.specs.Owned.{owned}
+use Rattle.book.specs.Owned.{owned_order}
 use Rattle.book.specs.Firsts.{find}
 use Rattle.book.specs.Tables.{Rows, is_full, standing}
 use Rattle.book.specs.declared.fault.BookFault.{BookFault}
@@ -207,7 +207,7 @@ withdraw_passed s places u h = let a = then_ok (room_check places) _ u h in (roo
 pub clock_passed : (s : State) (places seconds : ℕ) (u : Unit {0}) → clock_check s places seconds ≡ Ok u → 129 ≤ places
 clock_passed s places seconds u h = let a = then_ok (room_check places) _ u h in room_ok places a.0 a.1
 
-found_ok : (r : Option Found) (f : Found) → owned r ≡ Ok f → r ≡ Some f
+found_ok : (r : Option Found) (f : Found) → owned_order r ≡ Ok f → r ≡ Some f
 found_ok None f e = err_ok _ f e
 found_ok (Some x) f e = let k : x ≡ f = cc in ap (λ z. Some z) k
 

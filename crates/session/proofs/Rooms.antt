@@ -2,7 +2,7 @@
 use Rattle.std.proofs.Common.{◌≡◌, ℕ, ◌≤◌, Bool, true, false, leb, Some, None, Ok, Err, Option, sym, refl, subst, arith}
 use Rattle.std.proofs.lemmas.Bool.{leb-true}
 use Rattle.figures.specs.declared.check.Offer.{Offer}
-use Rattle.book.specs.Owned.{owned}
+use Rattle.book.specs.Owned.{owned_order}
 use Rattle.book.specs.Firsts.{find}
 use Rattle.book.specs.declared.found.Found.{Found}
 use Rattle.session.specs.Bounds.{Bounded, Low}
@@ -55,11 +55,11 @@ pub cancel_found : (s : State) (places sender ticket : ℕ) (f : Found) → Ok f
     find sender ticket s.table.rows ≡ Some f
 cancel_found s places sender ticket f h = go (leb 129 places) h
   where
-    told : (o : Option Found) → Ok f ≡ from_book (owned o) → o ≡ Some f
+    told : (o : Option Found) → Ok f ≡ from_book (owned_order o) → o ≡ Some f
     told None k = ok_err f _ k
     told (Some x) k = cc
 
-    go : (v : Bool) → Ok f ≡ then (holds v ShortList) (λ _. from_book (owned (find sender ticket s.table.rows))) →
+    go : (v : Bool) → Ok f ≡ then (holds v ShortList) (λ _. from_book (owned_order (find sender ticket s.table.rows))) →
         find sender ticket s.table.rows ≡ Some f
     go true k = told (find sender ticket s.table.rows) k
     go false k = ok_err f ShortList k

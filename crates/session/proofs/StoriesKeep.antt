@@ -22,7 +22,7 @@ use Rattle.session.specs.Phases.{Dark, is_asked, is_halted}
 use Rattle.session.specs.Stories.{Call, Event, Reply, Refused, Answered, Handed, Story, Yield, event_of, further, opened, yields}
 use Rattle.session.specs.StoryCounts.{EnteredIn, WasEntered, accepted_as, accepted_in, by_numbered, counts, number_by, slips_of}
 use Rattle.session.specs.StoryFair.{FairEvent, FairReply, PricedEvent, in_limit1}
-use Rattle.session.specs.StoryLaws.{Common, Every-history, Every-story, Replies, Spares}
+use Rattle.session.specs.StoryLaws.{Common, EveryHistory, EveryStory, Replies, Spares}
 use Rattle.session.specs.StoryPhases.{HaltsBy, LeavesReply, PhasedEvent, ToldBy}
 use Rattle.session.specs.StoryRfes.{RfeBy}
 use Rattle.session.specs.StoryStretch.{stretch}
@@ -238,7 +238,7 @@ module _ (d : Day) (L : RankLaw d.rank) where
         (own d (in_limit1 d) d.reference es s K.0 c paper held y S, K.1),
       )
 
-pub every_story : Every-story
+pub every_story : EveryStory
 every_story d L es s st =
     let K = keeps d L st in
     record {
@@ -270,5 +270,5 @@ history_keeps reference reply (more {es} {s} st d l c paper held) =
       ((d, l, O.fair, O.phases), H.1),
     )
 
-pub every_history : Every-history
+pub every_history : EveryHistory
 every_history reference reply es s st = let K = history_keeps reference reply st in record { common = K.0.common; own = K.1 }

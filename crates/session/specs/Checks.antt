@@ -4,7 +4,7 @@ use Rattle.figures.specs.Checks.{Checked, quote_check, sender_check}
 use Rattle.figures.specs.declared.check.Offer.{Offer}
 use Rattle.book.specs.Admits.{order_admitted, quote_admitted}
 use Rattle.book.specs.Firsts.{find}
-use Rattle.book.specs.Owned.{owned}
+use Rattle.book.specs.Owned.{owned_order}
 use Rattle.book.specs.declared.fault.BookFault.{BookFault}
 use Rattle.book.specs.declared.fault.BookFault.TheVariants as book
 use Rattle.book.specs.declared.found.Found.{Found}
@@ -48,7 +48,7 @@ enter_check d s places e =
     from_book (order_admitted d.means d.reference e.price e.pieces s.table.rows s.count)))))
 
 abbrev pub cancel_check : State → ℕ → ℕ → ℕ → Passed Found
-cancel_check s places sender ticket = then (room_check places) (λ _. from_book (owned (find sender ticket s.table.rows)))
+cancel_check s places sender ticket = then (room_check places) (λ _. from_book (owned_order (find sender ticket s.table.rows)))
 
 -- the quote's number
 abbrev pub quote_test : Day → State → ℕ → Offer → Passed ℕ

@@ -112,13 +112,13 @@ pub record Laws (d : Day) (es : List Event) (s : State) : Type 0 where
   pub phases : AllByRecursion (PhasedEvent d) es
 
 -- whatever the sheet means, and whatever lawful ranking there is
-abbrev pub Every-story : Type 0
-Every-story = (d : Day) → RankLaw d.rank → (es : List Event) (s : State) → Story d es s → Laws d es s
+abbrev pub EveryStory : Type 0
+EveryStory = (d : Day) → RankLaw d.rank → (es : List Event) (s : State) → Story d es s → Laws d es s
 
 -- what holds of a history: each event keeps its own day's laws
 pub record HistoryLaws (reference reply : ℕ) (es : List Event) (s : State) : Type 0 where
   pub common : Common reference reply es s
   pub own : AllByRecursion (λ e. (d : Day) × LawfulDay reference reply d × FairEvent d e × PhasedEvent d e) es
 
-abbrev pub Every-history : Type 0
-Every-history = (reference reply : ℕ) (es : List Event) (s : State) → History reference reply es s → HistoryLaws reference reply es s
+abbrev pub EveryHistory : Type 0
+EveryHistory = (reference reply : ℕ) (es : List Event) (s : State) → History reference reply es s → HistoryLaws reference reply es s

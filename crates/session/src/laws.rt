@@ -1,10 +1,10 @@
 // What holds of every story.
-ghost use Rattle.session.specs.StoryLaws.{Every-history, Every-story};
+ghost use Rattle.session.specs.StoryLaws.{EveryHistory, EveryStory};
 ghost use Rattle.session.specs.StoryTeeth.{StoryTeeth};
 
 // Every story keeps the laws, under any lawful sheet and any lawful ranking.
 pub fn stories_are_lawful() -> u8
-    ensures { Every-story }
+    ensures { EveryStory }
 {
     0
 }
@@ -12,7 +12,7 @@ pub fn stories_are_lawful() -> u8
 // A history in which each event tells its own sheet and ranking keeps what does not hang on them,
 // and each event keeps the laws of its own.
 pub fn histories_are_lawful() -> u8
-    ensures { Every-history }
+    ensures { EveryHistory }
 {
     0
 }
