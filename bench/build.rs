@@ -4,7 +4,7 @@ use std::env;
 use std::path::Path;
 
 const VARIABLE: &str = "PORT_LIB";
-const DEFAULT_FOLDER: &str = "../target/staticlib";
+const DEFAULT_FOLDER: &str = "../crates/port/out";
 
 fn main() {
     println!("cargo:rerun-if-changed=build.rs");

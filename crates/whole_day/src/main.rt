@@ -7,7 +7,7 @@ use std::io::{Read, Write};
 use std::{env, fs};
 use whole_key::whole::key_of;
 
-const USAGE: &str = "usage: day [FILE]
+const USAGE: &str = "usage: whole_day [FILE]
 
 Reads records from FILE, or from standard input, and writes the key to standard output.
 It reads all before it writes. The status is 0; where something cannot be read or written
@@ -48,13 +48,13 @@ fn read_arguments(rt: &HostRuntime) -> anyhow::Result<Source> {
         return Ok(Source::StandardInput);
     };
     if arguments.next().is_some() {
-        return Err(anyhow!("more than one argument: see day --help"));
+        return Err(anyhow!("more than one argument: see whole_day --help"));
     }
     if argument.as_str() == "--help" {
         return Ok(Source::Help);
     }
     if argument.as_str().starts_with('-') {
-        return Err(anyhow!("there is no such option: see day --help"));
+        return Err(anyhow!("there is no such option: see whole_day --help"));
     }
     Ok(Source::File(argument))
 }
@@ -97,7 +97,7 @@ fn run(rt: &HostRuntime) -> anyhow::Result<()> {
 fn main(rt: HostRuntime) -> anyhow::Result<()> {
     let result = run(&rt);
     if let Err(e) = &result {
-        let _ = eprintln!(rt; "day: {e}");
+        let _ = eprintln!(rt; "whole_day: {e}");
     }
     result
 }
