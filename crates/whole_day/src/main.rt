@@ -4,6 +4,7 @@
 
 use anyhow::anyhow;
 use std::io::{Read, Write};
+use std::process::ExitCode;
 use std::{env, fs};
 use whole_key::whole::key_of;
 
@@ -94,10 +95,12 @@ fn run(rt: &HostRuntime) -> anyhow::Result<()> {
     }
 }
 
-fn main(rt: HostRuntime) -> anyhow::Result<()> {
-    let result = run(&rt);
-    if let Err(e) = &result {
-        let _ = eprintln!(rt; "whole_day: {e}");
+fn main(rt: HostRuntime) -> ExitCode {
+    match run(&rt) {
+        Ok(()) => ExitCode::SUCCESS,
+        Err(e) => {
+            let _ = eprintln!(rt; "whole_day: {e}");
+            ExitCode::FAILURE
+        }
     }
-    result
 }
