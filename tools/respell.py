@@ -20,6 +20,7 @@ DEFINED = re.compile(r"^\s*(?:abbrev |unfoldable )?(?:pub )?([a-z][\w'-]*) :", r
 # names of Rattle's own or the library's that look like ours
 MADE = re.compile(r"(?:loop|returns|invariant|decreases|overflow|nonzero|bounds|in|if)-|.*-requires(?:-|$)")
 
+
 def files(ends):
     for folder, dirs, names in os.walk("crates"):
         dirs[:] = sorted(d for d in dirs if d != "out")
