@@ -1,5 +1,5 @@
 -- What a good move is, and what its parts have in common.
-use Rattle.std.proofs.Common.{◌≡◌, ℕ, ◌≤◌, min, Bool, true, false, cond, Some, sym, refl, subst, inl, inr, arith}
+use Rattle.std.proofs.Common.{◌≡◌, ℕ, ◌≤◌, min, Bool, true, false, cond, Some, None, sym, refl, subst, inl, inr, arith}
 use Rattle.std.proofs.lemmas.Bool.{leb-true, leb-false, lt-ltb, ltb-true}
 use Rattle.book.specs.Sides.{Side, Buy, Sell, same_side, opposite}
 use Rattle.book.specs.Proposals.{Order, Quote, Proposal, proposal, side_of}
@@ -7,7 +7,7 @@ use Rattle.book.specs.Ranks.{Rank, better}
 use Rattle.book.specs.Picks.{reaches}
 use Rattle.book.specs.Tables.{At}
 use Rattle.book.specs.Firsts.{Found}
-use Rattle.book.specs.Moves.{Board, Frame, Party, Row, Maker, Move, Stop, Ask, Deal, Strike, Halt}
+use Rattle.book.specs.Moves.{Board, Frame, Party, Move, Stop, Ask, Deal, Strike, Halt}
 use Rattle.book.specs.Makes.{number}
 use Rattle.book.specs.Moments.{halts}
 use Rattle.book.specs.Opens.{IsOrder, Step, IsStep, Leads}
@@ -22,14 +22,14 @@ use Rattle.book.proofs.Bests.{true_false}
 
 -- a party of a deal: where it stands, and what it proposes
 abbrev pub PartyAt : Board → Side → Party → Proposal → Type 0
-PartyAt b s (Row x) p = At b.table.rows x.place x.order × (x.order.side ≡ s) × (p ≡ proposal x.order)
-PartyAt b s Maker p = (q : Quote) × (b.quote ≡ Some q) × (p ≡ side_of q s)
+PartyAt b s (Some x) p = At b.table.rows x.place x.order × (x.order.side ≡ s) × (p ≡ proposal x.order)
+PartyAt b s None p = (q : Quote) × (b.quote ≡ Some q) × (p ≡ side_of q s)
 
 -- the quote does not trade with itself
 abbrev pub Apart : Party → Party → Type 0
-Apart Maker Maker = ⊥
-Apart Maker (Row y) = Unit {0}
-Apart (Row x) y = Unit {0}
+Apart None None = ⊥
+Apart None (Some y) = Unit {0}
+Apart (Some x) y = Unit {0}
 
 pub record Pair (b : Board) (x y : Party) (n : ℕ) : Type 0 where
   pub buying : Proposal
@@ -90,8 +90,8 @@ abbrev pub is_order : (b : Board) (s : Side) (x : Found) → At b.table.rows x.p
 is_order b s x a e = record { place = x.place; order = x.order; stands = a; side = e; is = refl }
 
 pub is_party : (b : Board) (s : Side) (x : Party) (p : Proposal) → PartyAt b s x p → IsParty b s (number x) p
-is_party b s (Row x) p h = inr (record { place = x.place; order = x.order; stands = h.0; side = h.1; is = h.2 }, refl)
-is_party b s Maker p h = inl (refl, h)
+is_party b s (Some x) p h = inr (record { place = x.place; order = x.order; stands = h.0; side = h.1; is = h.2 }, refl)
+is_party b s None p h = inl (refl, h)
 
 abbrev pub meets_from : (rank : Rank) (f : Frame) (b : Board) → b.halted ≡ false →
     (step : Step) (s : Side) (o : Order) (other : Proposal) → IsStep b step → o.side ≡ s → Leads rank f b step s (proposal o) →

@@ -1,3 +1,4 @@
+pub mod Asking
 pub mod Bests
 pub mod Biting
 pub mod GoodMoves
@@ -10,5 +11,6 @@ pub mod Placing
 pub mod RowChanges
 pub mod Rulings
 pub mod Running
+pub mod Scans
 pub mod Tails
 pub mod Takers

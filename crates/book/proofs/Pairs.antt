@@ -8,7 +8,7 @@ use Rattle.book.specs.Ranks.{Rank, RankLaw, better}
 use Rattle.book.specs.Picks.{Any, beats, picked}
 use Rattle.book.specs.Tables.{Rows, At}
 use Rattle.book.specs.Firsts.{Found}
-use Rattle.book.specs.Moves.{Board, Frame, Row, Deal, Strike, Halt, in_limit, in_quote, sweep, elder, pairing, met, step_b}
+use Rattle.book.specs.Moves.{Board, Frame, Deal, Strike, Halt, in_limit, in_quote, sweep, elder, pairing, met, step_b}
 use Rattle.book.specs.Opens.{ByPair, IsStep, Leads}
 use Rattle.book.specs.Outs.{Meets}
 use Rattle.book.specs.Sound.{Sound}
@@ -92,7 +92,7 @@ module _ (rank : Rank) (L : RankLaw rank) (f : Frame) (b : Board) (S : Sound f b
           (λ z. (z.order.price ≤ x.order.price) × (y.order.price ≤ z.order.price)) (λ e. (omega arith, le)) (λ e. (le, omega arith))
 
       deals : in_quote f price ≡ true → in_limit f price ≡ true →
-          Good rank f b (Deal (Row x) (Row y) price (min x.order.pieces y.order.pieces))
+          Good rank f b (Deal (Some x) (Some y) price (min x.order.pieces y.order.pieces))
       deals e l = (
         record {
           buying = proposal x.order;

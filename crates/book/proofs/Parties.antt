@@ -6,7 +6,7 @@ use Rattle.book.specs.Sides.{Side, Buy, Sell}
 use Rattle.book.specs.Proposals.{Order, Quote, Proposal, side_of}
 use Rattle.book.specs.Tables.{Rows, At, lower, lower_quote, left, standing}
 use Rattle.book.specs.Firsts.{Found}
-use Rattle.book.specs.Moves.{Board, Frame, Party, Row, Maker}
+use Rattle.book.specs.Moves.{Board, Frame, Party}
 use Rattle.book.specs.Makes.{board_of, on_quote, lower_party, number}
 use Rattle.book.specs.Moments.{fewer, without, delivers}
 use Rattle.book.specs.Sound.{Sound}
@@ -15,7 +15,7 @@ use Rattle.book.specs.CrossLaws.{quotes}
 use Rattle.book.proofs.Bests.{none_some, inside}
 use Rattle.book.proofs.GoodMoves.{PartyAt, Apart}
 use Rattle.book.proofs.RowChanges.{Shrunk, shrunk_self, shrunk_chain, set_shrunk, lower_follows, lowered_left}
-use Rattle.book.proofs.RowChanges.{set_standing, one_lower, lower_none, map_same, map_one}
+use Rattle.book.proofs.RowChanges.{set_standing, one_le, lower_none, map_same, map_one}
 
 -- ---- the quote
 
@@ -156,14 +156,14 @@ sound_less f new old l S =
 
 module _ (s : Side) (n : ℕ) (b : Board) where
   pub party_less : (x : Party) (p : Proposal) → PartyAt b s x p → Less (lower_party s n x b) b
-  party_less (Row x) p h =
+  party_less (Some x) p h =
       record {
         rows = set_shrunk b.table.rows x.place (lower n x.order) x.order h.0 (lower_follows n x.order);
         quote = kept_self b.quote;
         dark = λ k. k;
-        few = omega (arith, set_standing b.table.rows x.place (lower n x.order) x.order h.0, one_lower n x.order);
+        few = omega (arith, set_standing b.table.rows x.place (lower n x.order) x.order h.0, one_le (lower n x.order));
       }
-  party_less Maker p h =
+  party_less None p h =
       record {
         rows = shrunk_self b.table.rows;
         quote = kept_lowered s n b.quote;
@@ -173,20 +173,20 @@ module _ (s : Side) (n : ℕ) (b : Board) where
 
   pub party_left : (t : ℕ) → t ≢ 0 → (x : Party) (p : Proposal) → PartyAt b s x p → n ≤ p.pieces →
       left t (lower_party s n x b).table.rows + cond (eqb (number x) t) n 0 ≡ left t b.table.rows
-  party_left t z (Row x) p h le =
+  party_left t z (Some x) p h le =
       lowered_left t n b.table.rows x.place x.order h.0 (omega (arith, le, ap (λ v. v.pieces) h.2))
-  party_left t z Maker p h le = omega (arith, cond-false (eqb 0 t) n 0 (ne_eqb 0 t (λ e. z (sym e))))
+  party_left t z None p h le = omega (arith, cond-false (eqb 0 t) n 0 (ne_eqb 0 t (λ e. z (sym e))))
 
   pub party_many : (x : Party) (p : Proposal) → PartyAt b s x p → many (lower_party s n x b) ≤ many b
-  party_many (Row x) p h =
-      omega (arith, set_standing b.table.rows x.place (lower n x.order) x.order h.0, one_lower n x.order)
-  party_many Maker p h = let is = h.1 in rw is (omega (arith, one_quote s n h.0))
+  party_many (Some x) p h =
+      omega (arith, set_standing b.table.rows x.place (lower n x.order) x.order h.0, one_le (lower n x.order))
+  party_many None p h = let is = h.1 in rw is (omega (arith, one_quote s n h.0))
 
   pub party_fewer : (x : Party) (p : Proposal) → PartyAt b s x p → p.pieces ≤ n → many (lower_party s n x b) < many b
-  party_fewer (Row x) p h le =
+  party_fewer (Some x) p h le =
       let k : x.order.pieces ≤ n = omega (arith, le, ap (λ v. v.pieces) h.2) in
       omega (arith, set_standing b.table.rows x.place (lower n x.order) x.order h.0, lower_none n x.order k)
-  party_fewer Maker p h le =
+  party_fewer None p h le =
       let is = h.1 in
       let k : (side_of h.0 s).pieces ≤ n = omega (arith, le, ap (λ v. v.pieces) h.2) in
       rw is (omega (arith, no_quote s n h.0 k))
@@ -194,7 +194,7 @@ module _ (s : Side) (n : ℕ) (b : Board) where
 -- the other party is still there
 pub party_after : (n : ℕ) (b : Board) (x y : Party) (p r : Proposal) → PartyAt b Buy x p → PartyAt b Sell y r → Apart x y →
     PartyAt (lower_party Buy n x b) Sell y r
-party_after n b (Row x) (Row y) p r hx hy d =
+party_after n b (Some x) (Some y) p r hx hy d =
     (get_or-set_other b.table.rows x.place y.place (lower n x.order) None places ∙ hy.0, hy.1, hy.2)
   where
     places : y.place ≢ x.place
@@ -203,9 +203,9 @@ party_after n b (Row x) (Row y) p r hx hy d =
         let k : x.order ≡ y.order = cc (a, hx.0) in
         let m : Buy ≡ Sell = sym hx.1 ∙ ap (λ z. z.side) k ∙ hy.1 in
         let z : ◌≡◌ {A = ℕ} 0 1 = cc in omega arith
-party_after n b (Row x) Maker p r hx hy d = hy
-party_after n b Maker (Row y) p r hx hy d = hy
-party_after n b Maker Maker p r hx hy d = absurd d
+party_after n b (Some x) None p r hx hy d = hy
+party_after n b None (Some y) p r hx hy d = hy
+party_after n b None None p r hx hy d = absurd d
 
 -- ---- the same, read from the slip
 
@@ -226,13 +226,13 @@ module _ (f : Frame) (b : Board) (S : Sound f b) where
   other_ticket x a k n o h = ne_eqb _ _ (λ e. n (S.rows.distinct k x.place o x.order h a e))
 
   pub party_told : (s : Side) (n : ℕ) (x : Party) (p : Proposal) → PartyAt b s x p → delivers s (number x) n b ≡ lower_party s n x b
-  party_told s n (Row x) p h =
+  party_told s n (Some x) p h =
       boards _ _ _ _ b.halted
       (map_one (fewer x.order.ticket n) refl b.table.rows x.place _ (inside b.table.rows x.place x.order h.0)
       (rw h.0 (cond-true (eqb x.order.ticket x.order.ticket) _ _ (eq-eqb _ _ refl)))
       (λ k d. untouched (fewer x.order.ticket n) refl b.table.rows k (λ o a. cond-false _ _ _ (other_ticket x h.0 k d o a))))
       (cond-false (eqb x.order.ticket 0) _ _ (ne_eqb _ _ (S.rows.named _ _ h.0)))
-  party_told s n Maker p h =
+  party_told s n None p h =
       boards _ _ _ _ b.halted
       (map_same (fewer 0 n) b.table.rows
       (λ k. untouched (fewer 0 n) refl b.table.rows k (λ o a. cond-false _ _ _ (ne_eqb o.ticket 0 (S.rows.named k o a)))))

@@ -105,8 +105,9 @@ freed_left t rows i o a = omega (arith, set_left t rows i None o a)
 pub set_standing : (rows : Rows) (i : ℕ) (x : Option Order) (o : Order) → At rows i o → standing (set rows i x) + 1 ≡ standing rows + one x
 set_standing rows i x o a = let k = sum_by-set one rows i x None (inside rows i o a) in rw a at k
 
-pub one_lower : (n : ℕ) (o : Order) → one (lower n o) ≤ 1
-one_lower n o = cond_both (ltb n o.pieces) _ _ (λ z. one z ≤ 1) (λ _. omega arith) (λ _. omega arith)
+pub one_le : (r : Option Order) → one r ≤ 1
+one_le None = omega arith
+one_le (Some o) = omega arith
 
 pub lower_none : (n : ℕ) (o : Order) → o.pieces ≤ n → one (lower n o) ≡ 0
 lower_none n o le = rw (le-ltb n o.pieces le)
@@ -119,8 +120,7 @@ some_stand rows i o a =
 -- no more orders stand than there are places
 pub standing_fits : (rows : Rows) → standing rows ≤ length rows
 standing_fits [] = omega arith
-standing_fits (None ∷ rs) = omega (arith, sum_by-cons one None rs, standing_fits rs)
-standing_fits (Some o ∷ rs) = omega (arith, sum_by-cons one (Some o) rs, standing_fits rs)
+standing_fits (r ∷ rs) = omega (arith, sum_by-cons one r rs, one_le r, standing_fits rs)
 
 -- ---- a change of each row that touches one place, or none
 

@@ -8,7 +8,7 @@ use Rattle.book.specs.Ranks.{Rank, RankLaw}
 use Rattle.book.specs.Picks.{Taking, Partner, beats, picked, reaches}
 use Rattle.book.specs.Tables.{Rows}
 use Rattle.book.specs.Firsts.{Found}
-use Rattle.book.specs.Moves.{Board, Frame, Party, Row, Maker, in_limit, in_quote, dealt, trading, with_quote, with_order, choice, step_a, taken}
+use Rattle.book.specs.Moves.{Board, Frame, Party, in_limit, in_quote, dealt, trading, with_quote, with_order, choice, step_a, taken}
 use Rattle.book.specs.Makes.{number}
 use Rattle.book.specs.Opens.{IsOrder, Unreached, ByTaker, IsStep, SettledWithin, IsPartner, Open, Leads}
 use Rattle.book.specs.Fair.{Served}
@@ -149,13 +149,13 @@ module _ (rank : Rank) (L : RankLaw rank) (f : Frame) (b : Board) (S : Sound f b
         let to : price ≤ f.ask = omega (arith, known.same_ask) in
         and_from _ _ (le-leb _ _ from) (le-leb _ _ to)
 
-    row_apart : (x : Party) (t : Found) → Apart x (Row t)
-    row_apart (Row x) t = tt
-    row_apart Maker t = tt
+    row_apart : (x : Party) (t : Found) → Apart x (Some t)
+    row_apart (Some x) t = tt
+    row_apart None t = tt
 
     deals_taker : (s : Side) (t : Found) → Top (beats rank (Taking s q)) (picked (Taking s q)) rows t → (s ≡ Sell → Unreached b q Buy) →
         (x : Party) (p : Proposal) → Ready s x p → in_limit f p.price ≡ true →
-        Good rank f b (dealt s (Row t) x p.price (min t.order.pieces p.pieces))
+        Good rank f b (dealt s (Some t) x p.price (min t.order.pieces p.pieces))
     deals_taker Buy t h u x p r l = (
       record {
         buying = proposal t.order;
@@ -253,7 +253,7 @@ module _ (rank : Rank) (L : RankLaw rank) (f : Frame) (b : Board) (S : Sound f b
             leads = taker_leads s t h;
             quote_leads = k;
           })
-          (λ e. trades Maker (side_of q (opposite s))
+          (λ e. trades None (side_of q (opposite s))
           (record {
             at = (q, is, refl);
             from_bid = quote_from_lem (opposite s);
@@ -269,7 +269,7 @@ module _ (rank : Rank) (L : RankLaw rank) (f : Frame) (b : Board) (S : Sound f b
           let side = same_side_lem _ _ (and_parts _ _ g.passes).0 in
           let fits = and_parts _ _ (and_parts _ _ g.passes).1 in
           let ends = and_parts _ _ fits.1 in
-          trades (Row c) (proposal c.order)
+          trades (Some c) (proposal c.order)
           (record {
             at = (g.here, side, refl);
             from_bid = leb-true _ _ ends.0;

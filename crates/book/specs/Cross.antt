@@ -4,6 +4,7 @@ use Rattle.std.proofs.lemmas.List.Edits.{sets}
 use Rattle.book.specs.Ranks.{Rank}
 use Rattle.book.specs.Moves.{Board, Frame, Move, Stop, Ask, Deal, Strike, Halt, next}
 use Rattle.book.specs.Makes.{Slip, after, slip}
+use Rattle.book.specs.Outcomes.{asked_for, is_halted, quote_left}
 use Rattle.book.specs.Tables.{Rows}
 pub use Rattle.book.specs.declared.crossed.Crossed.{Crossed}
 
@@ -36,8 +37,12 @@ work rank f (suc fuel) b = let m = next rank f b in let r = work rank f fuel (af
 abbrev pub cross : Rank → Frame → Board → Run
 cross rank f b = work rank f 129 b
 
-abbrev pub crossed : Run → Crossed
-crossed r = record { count = length r.slips; asked = r.asked; quote = r.board.quote; halted = r.board.halted }
+-- the answer counts the slips, and its outcome says what is asked, which quote stands and whether the book is halted
+pub record Tells (a : Crossed) (r : Run) : Type 0 where
+  pub count : a.count ≡ length r.slips
+  pub asked : asked_for a.outcome ≡ r.asked
+  pub quote : quote_left a.outcome ≡ r.board.quote
+  pub halted : is_halted a.outcome ≡ r.board.halted
 
 -- slips fill the list from its start, later places keep their content; what has no place is not written
 abbrev pub written : List Slip → List Slip → List Slip
@@ -47,4 +52,4 @@ written slips paper = sets paper 0 slips
 pub record Did (r : Run) (stands : Rows) (old new : List Slip) (a : Crossed) : Type 0 where
   pub rows : stands ≡ r.board.table.rows
   pub slips : new ≡ written r.slips old
-  pub answer : a ≡ crossed r
+  pub answer : Tells a r

@@ -11,10 +11,12 @@ pub mod FairSlips
 pub mod Firsts
 pub mod Ledger
 pub mod Lowered
+pub mod Makers
 pub mod Makes
 pub mod Moments
 pub mod Moves
 pub mod Opens
+pub mod Outcomes
 pub mod Outs
 pub mod Owned
 pub mod Picks
@@ -24,6 +26,7 @@ pub mod Proposals
 pub mod Quiet
 pub mod Ranks
 pub mod Refusals
+pub mod Searches
 pub mod Sides
 pub mod Sound
 pub mod Surveys

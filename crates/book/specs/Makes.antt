@@ -5,7 +5,7 @@ use Rattle.book.specs.Sides.{Side, Buy, Sell}
 use Rattle.book.specs.Proposals.{Order, Quote}
 use Rattle.book.specs.Tables.{Rows, lower, lower_quote}
 use Rattle.book.specs.Firsts.{Found}
-use Rattle.book.specs.Moves.{Board, Move, Stop, Ask, Deal, Strike, Halt, Party, Row, Maker}
+use Rattle.book.specs.Moves.{Board, Move, Stop, Ask, Deal, Strike, Halt, Party}
 pub use Rattle.book.specs.declared.slip.Slip.{Slip}
 pub use Rattle.book.specs.declared.slip.Slip.TheVariants.{Trade, Out}
 pub use Rattle.book.specs.declared.table.Table.{Table}
@@ -23,8 +23,8 @@ on_quote g (Some q) = g q
 
 -- one party of a trade has `n` pieces fewer
 abbrev pub lower_party : Side → ℕ → Party → Board → Board
-lower_party s n (Row f) b = with_row b f.place (lower n f.order)
-lower_party s n Maker b = board_of b.table.rows (on_quote (lower_quote s n) b.quote) b.halted
+lower_party s n (Some f) b = with_row b f.place (lower n f.order)
+lower_party s n None b = board_of b.table.rows (on_quote (lower_quote s n) b.quote) b.halted
 
 -- a halt takes the quote away with the order
 abbrev pub after : Move → Board → Board
@@ -36,8 +36,8 @@ after (Halt f) b = board_of (slice_set b.table.rows f.place None) None true
 
 -- the ticket of a party, 0 for the quote
 abbrev pub number : Party → ℕ
-number (Row f) = f.order.ticket
-number Maker = 0
+number (Some f) = f.order.ticket
+number None = 0
 
 abbrev pub traded : Party → Party → ℕ → ℕ → Slip
 traded x y p n = Trade p n (number x) (number y)

@@ -12,8 +12,10 @@ pub use Rattle.book.specs.Boards.{Board}
 pub use Rattle.book.specs.declared.frame.Frame.{Frame}
 pub use Rattle.book.specs.declared.moves.Move.{Move}
 pub use Rattle.book.specs.declared.moves.Move.TheVariants.{Stop, Ask, Deal, Strike, Halt}
-pub use Rattle.book.specs.declared.moves.Party.{Party}
-pub use Rattle.book.specs.declared.moves.Party.TheVariants.{Row, Maker}
+
+-- one party of a trade: an order in its row, or none for the quote
+abbrev pub Party : Type 0
+Party = Option Found
 
 -- a trade has to be within Limit 2 of the dynamic price
 abbrev pub in_limit : Frame → ℕ → Bool
@@ -33,14 +35,14 @@ dealt Sell taker partner price pieces = Deal partner taker price pieces
 -- the price is the partner's, and the smaller number of pieces trades
 unfoldable pub trading : Frame → Side → Found → Party → Proposal → Move
 trading f s t partner p =
-    cond (in_limit f p.price) (dealt s (Row t) partner p.price (min t.order.pieces p.pieces)) (Halt t)
+    cond (in_limit f p.price) (dealt s (Some t) partner p.price (min t.order.pieces p.pieces)) (Halt t)
 
 -- a flagged quote is asked before any test of the price
 abbrev pub with_quote : Frame → Quote → Side → Found → Move
-with_quote f q s t = cond (q.flagged && f.entered) (Ask t.order.ticket) (trading f s t Maker (side_of q (opposite s)))
+with_quote f q s t = cond (q.flagged && f.entered) (Ask t.order.ticket) (trading f s t None (side_of q (opposite s)))
 
 abbrev pub with_order : Frame → Side → Found → Found → Move
-with_order f s t p = trading f s t (Row p) (proposal p.order)
+with_order f s t p = trading f s t (Some p) (proposal p.order)
 
 -- the partner is the quote, unless an order ranks ahead of it
 abbrev pub choice : Rank → Frame → Quote → Side → Found → Option Found → Move
@@ -70,7 +72,7 @@ younger a b = cond (nat_lt a.order.ticket b.order.ticket) b a
 abbrev pub pairing_at : Frame → Found → Found → ℕ → Move
 pairing_at f b s price =
     cond (in_quote f price)
-    (cond (in_limit f price) (Deal (Row b) (Row s) price (min b.order.pieces s.order.pieces)) (Halt (younger b s)))
+    (cond (in_limit f price) (Deal (Some b) (Some s) price (min b.order.pieces s.order.pieces)) (Halt (younger b s)))
     (Strike OutsideQuote (younger b s))
 
 -- the price is that of the lower ticket

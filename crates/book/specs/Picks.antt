@@ -3,8 +3,20 @@ use Rattle.std.specs.Prelude.{ℕ, Bool, true, ◌&&◌, Some, None, Option, ◌
 use Rattle.book.specs.Sides.{Side, Buy, Sell, same_side}
 use Rattle.book.specs.Proposals.{Order, Quote, proposal}
 use Rattle.book.specs.Ranks.{Rank}
-pub use Rattle.book.specs.declared.pick.Pick.{Pick}
-pub use Rattle.book.specs.declared.pick.Pick.TheVariants.{Any, Taking, Partner, Reaching, Brief, Owned}
+
+pub data Pick : Type 0 where
+  -- orders of the side
+  Any : Side → Pick
+  -- orders of the side that reach the quote
+  Taking : Side → Quote → Pick
+  -- orders of the side priced from bid to ask, and settled
+  Partner : Side → Quote → Option ℕ → Pick
+  -- orders of either side that reach the quote
+  Reaching : Quote → Pick
+  -- execute-and-cancel orders
+  Brief : Pick
+  -- the sender's order of that ticket
+  Owned : ℕ → ℕ → Pick
 
 -- a buy reaches the quote at or above the ask, a sell at or below the bid
 abbrev pub reaches : Quote → Order → Side → Bool

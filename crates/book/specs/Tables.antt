@@ -1,5 +1,5 @@
 -- The rows of the table: what stands, what is left after a trade, and where a new order goes.
-use Rattle.std.specs.Prelude.{◌≡◌, ℕ, ◌+◌, ◌-◌, Bool, cond, List, [], ◌∷◌, Some, None, sum_by, Option, ◌==◌, nat_le, nat_lt, slice_index_or}
+use Rattle.std.specs.Prelude.{◌≡◌, ℕ, ◌-◌, Bool, cond, List, [], ◌∷◌, position, is_none, Some, None, sum_by, Option, ◌==◌, nat_le, nat_lt, slice_index_or}
 use Rattle.book.specs.Sides.{Side, Buy, Sell}
 use Rattle.book.specs.Proposals.{Order, Quote}
 
@@ -48,14 +48,9 @@ standing rows = sum_by one rows
 abbrev pub is_full : Rows → Bool
 is_full rows = nat_le 128 (standing rows)
 
--- the first free place, counted from `i`
-unfoldable pub free_from : ℕ → Rows → Option ℕ
-free_from i [] = None
-free_from i (None ∷ rs) = Some i
-free_from i (Some o ∷ rs) = free_from (i + 1) rs
-
+-- the first free place
 abbrev pub free : Rows → Option ℕ
-free rows = free_from 0 rows
+free rows = position is_none rows
 
 -- a new order takes the first free place; where there is none, all stays
 unfoldable pub place : Order → Rows → Rows

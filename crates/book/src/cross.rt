@@ -1,5 +1,5 @@
 // The cross: one move after another, each with its slip.
-ghost use Rattle.std.specs.Prelude.{◌≡◌, false, slice_set};
+ghost use Rattle.std.specs.Prelude.{◌≡◌, false};
 ghost use Rattle.std.proofs.lemmas.List.Edits.{sets};
 ghost use Rattle.book.specs.Cross.{Did, cross};
 ghost use Rattle.book.specs.CrossLaws.{CrossLaws};
@@ -10,35 +10,27 @@ ghost use Rattle.book.specs.Turns.{Turned};
 use crate::crossed::{Crossed, Maker};
 use crate::frame::Frame;
 use crate::moves::{Move, traded};
+use crate::put::put;
 use crate::quote::Quote;
 use crate::ranking::Ranking;
+use crate::situation::Situation;
 use crate::slip::{Cause, Slip};
 use crate::table::Table;
 
-// What has no place in the list is not written.
-fn note(out: &mut [Slip], place: usize, slip: Slip)
-    ensures { out.new ≡ slice_set out.old place slip }
-{
-    if place < out.len() {
-        out[place] = slip;
-    }
-}
-
-// The slip of a move, if it has one.
+// The slip of a move, if it has one. What has no place in the list is not written.
 fn write(out: &mut [Slip], place: usize, next: Move)
     ensures { out.new ≡ sets out.old place (slip next) }
 {
     match next {
-        Move::Stop => {}
-        Move::Ask(_) => {}
+        Move::Stop | Move::Ask(_) => {}
         Move::Deal {
             buyer,
             seller,
             price,
             pieces,
-        } => note(out, place, traded(buyer, seller, price, pieces)),
-        Move::Strike { cause, found } => note(out, place, found.gone(cause)),
-        Move::Halt(found) => note(out, place, found.gone(Cause::BeyondLimit)),
+        } => put(out, place, traded(buyer, seller, price, pieces)),
+        Move::Strike { cause, found } => put(out, place, found.gone(cause)),
+        Move::Halt(found) => put(out, place, found.gone(Cause::BeyondLimit)),
     }
 }
 
@@ -52,10 +44,15 @@ impl Table {
         out: &mut [Slip],
         n: usize,
     ) -> Option<Crossed>
-        ensures { Turned (R.Ranking.ranks ranking.now) frame n (board_of self.old.rows maker.old.quote maker.old.halted) (board_of self.new.rows maker.new.quote maker.new.halted) out.old out.new result }
+        ensures { Turned (R.Ranking.ranks ranking.now) frame n self.old.rows self.new.rows maker.old maker.new out.old out.new result }
     {
         let before = *maker;
-        let next = self.next(ranking, frame, before);
+        let next = Situation {
+            table: self,
+            ranking,
+            frame,
+        }
+        .next(before);
         write(out, n, next);
         self.make(next, maker);
         next.end(n, before)
@@ -74,15 +71,10 @@ impl Table {
         ensures is { Did (cross (R.Ranking.ranks ranking.now) frame (board_of self.old.rows quote false)) self.new.rows out.old out.new result }
         ensures lawful { Sound frame (board_of self.old.rows quote false) → CrossLaws (R.Ranking.ranks ranking.now) frame (board_of self.old.rows quote false) (cross (R.Ranking.ranks ranking.now) frame (board_of self.old.rows quote false)) }
     {
-        let mut maker = Maker {
-            quote,
-            halted: false,
-        };
+        let mut maker = Maker::from(quote);
         for n in 0..129 {
-            let end = self.turn(ranking, frame, &mut maker, out, n);
-            match end {
-                Some(crossed) => return crossed,
-                None => {}
+            if let Some(crossed) = self.turn(ranking, frame, &mut maker, out, n) {
+                return crossed;
             }
         }
         maker.end(129, None)

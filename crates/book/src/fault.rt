@@ -25,27 +25,20 @@ impl From<FiguresFault> for BookFault {
     }
 }
 
-impl BookFault {
-    pub fn refusal(self) -> Refusal
-        ensures { result ≡ book_refusal self }
-    {
-        match self {
-            BookFault::Full => Refusal {
-                number: 8,
-                layer: Layer::Book,
-                field: 0,
-            },
-            BookFault::NumbersUsed => Refusal {
-                number: 9,
-                layer: Layer::Book,
-                field: 0,
-            },
-            BookFault::NoTicket => Refusal {
-                number: 10,
-                layer: Layer::Book,
-                field: 0,
-            },
-            BookFault::Figures(f) => f.refusal(),
+impl From<BookFault> for Refusal {
+    ghost from_gives = { λ fault refusal. refusal ≡ book_refusal fault };
+
+    fn from(fault: BookFault) -> Refusal {
+        let number = match fault {
+            BookFault::Full => 8,
+            BookFault::NumbersUsed => 9,
+            BookFault::NoTicket => 10,
+            BookFault::Figures(fault) => return Refusal::from(fault),
+        };
+        Refusal {
+            number,
+            layer: Layer::Book,
+            field: 0,
         }
     }
 }

@@ -1,73 +1,75 @@
 // The first, by rank or by ticket, of the orders that a search looks at.
-ghost use Rattle.std.specs.Prelude.{◌≡◌};
-ghost use Rattle.book.specs.Firsts.{chosen, first, looked};
-ghost use Rattle.book.specs.Picks.{beats, picked};
+ghost use Rattle.std.specs.Prelude.{◌≡◌, Bool};
+ghost use Rattle.book.specs.Firsts.{best, chosen, looked};
+ghost use Rattle.book.specs.Picks.{earlier};
+ghost use Rattle.book.specs.Proposals.{Order};
+ghost use Rattle.book.specs.Searches.{Compares, Tests};
 
 use crate::found::Found;
 use crate::order::Order;
-use crate::pick::Pick;
-use crate::ranking::Ranking;
 use crate::table::Table;
 
-// Of the best so far and one more order that passes, the one that goes before the other.
-fn choose<R: Ranking>(
-    ranking: &R,
-    pick: Pick,
+// Of the best so far and one more order, the one that goes before the other.
+pub(crate) fn choose<B: Fn(&Order, &Order) -> bool>(
     best: Option<Found>,
     place: usize,
-    order: Order,
+    order: &Order,
+    before: &B,
 ) -> Option<Found>
-    ensures { result ≡ chosen (beats (R.Ranking.ranks ranking.now) pick) best place order }
+    requires before { B.IsAlwaysCallable before.now }
+    ensures { (ahead : Order → Order → Bool) → Compares B.Fn before.now ahead → result ≡ chosen ahead best place order.now }
 {
-    match best {
-        None => Some(Found { place, order }),
-        Some(other) => {
-            if pick.prefers(ranking, order, other.order) {
-                Some(Found { place, order })
-            } else {
-                Some(other)
-            }
-        }
+    if best.is_none_or(|other| before(order, &other.order)) {
+        Some(Found {
+            place,
+            order: *order,
+        })
+    } else {
+        best
     }
 }
 
 // One more row.
-fn look<R: Ranking>(
-    ranking: &R,
-    pick: Pick,
+fn look<P: Fn(&Order) -> bool, B: Fn(&Order, &Order) -> bool>(
     best: Option<Found>,
     place: usize,
     row: &Option<Order>,
+    passes: &P,
+    before: &B,
 ) -> Option<Found>
-    ensures { result ≡ looked (beats (R.Ranking.ranks ranking.now) pick) (picked pick) best place row.now }
+    requires passes { P.IsAlwaysCallable passes.now }
+    requires before { B.IsAlwaysCallable before.now }
+    ensures { (ok : Order → Bool) (ahead : Order → Order → Bool) → Tests P.Fn passes.now ok → Compares B.Fn before.now ahead → result ≡ looked ahead ok best place row.now }
 {
     match row {
-        None => best,
-        Some(order) => {
-            if pick.picks(*order) {
-                choose(ranking, pick, best, place, *order)
-            } else {
-                best
-            }
-        }
+        Some(order) if passes(order) => choose(best, place, order, before),
+        _ => best,
     }
 }
 
-fn first_of<R: Ranking>(ranking: &R, pick: Pick, rows: &[Option<Order>; 128]) -> Option<Found>
-    ensures { result ≡ first (R.Ranking.ranks ranking.now) pick rows.now }
+// Each row is read once, in place.
+pub(crate) fn best<P: Fn(&Order) -> bool, B: Fn(&Order, &Order) -> bool>(
+    rows: &[Option<Order>; 128],
+    passes: P,
+    before: B,
+) -> Option<Found>
+    requires passes { P.IsAlwaysCallable passes }
+    requires before { B.IsAlwaysCallable before }
+    ensures { (ok : Order → Bool) (ahead : Order → Order → Bool) → Tests P.Fn passes ok → Compares B.Fn before ahead → result ≡ best ahead ok rows.now }
 {
     let mut best: Option<Found> = None;
-    for i in 0..128 {
-        best = look(ranking, pick, best, i, &rows[i]);
+    for (place, row) in rows.iter().enumerate() {
+        best = look(best, place, row, &passes, &before);
     }
     best
 }
 
 impl Table {
-    // Each row is read once, in place.
-    pub(crate) fn first<R: Ranking>(&self, ranking: &R, pick: Pick) -> Option<Found>
-        ensures { result ≡ first (R.Ranking.ranks ranking.now) pick self.now.rows }
+    // Of the orders that pass, the one with the lowest ticket.
+    pub(crate) fn earliest<P: Fn(&Order) -> bool>(&self, passes: P) -> Option<Found>
+        requires passes { P.IsAlwaysCallable passes }
+        ensures { (ok : Order → Bool) → Tests P.Fn passes ok → result ≡ best earlier ok self.now.rows }
     {
-        first_of(ranking, pick, &self.rows)
+        best(&self.rows, passes, |a, b| a.ticket < b.ticket)
     }
 }

@@ -7,7 +7,8 @@ use crate::moves::Move;
 use figures::limit::is_within;
 
 // Bid and ask are those of the governing quote. The opener is the ticket that opened the RFE which
-// the cross ends. The limit is Limit 2 in percent, around the dynamic price.
+// the cross ends. The limit is Limit 2 in percent, around the dynamic price. Opener and entered stand apart, since
+// the laws hold of every frame, of one with both too.
 #[derive(Clone, Copy)]
 pub struct Frame {
     pub bid: u32,
@@ -41,6 +42,6 @@ impl Frame {
     pub(crate) fn is_in_quote(self, price: u32) -> bool
         ensures { result ≡ in_quote self price }
     {
-        self.bid <= price && price <= self.ask
+        (self.bid..=self.ask).contains(&price)
     }
 }

@@ -7,12 +7,8 @@ use crate::crossed::{Crossed, Maker};
 use crate::found::Found;
 use crate::slip::{Cause, Slip};
 
-// One party of a trade: an order in its row, or the maker of the quote.
-#[derive(Clone, Copy)]
-pub enum Party {
-    Row(Found),
-    Maker,
-}
+// One party of a trade: an order in its row, or none for the quote.
+pub(crate) type Party = Option<Found>;
 
 // `Ask` carries the ticket of the order that the quote is asked about, and so opens an RFE.
 #[derive(Clone, Copy)]
@@ -32,29 +28,22 @@ pub enum Move {
     Halt(Found),
 }
 
-impl Party {
-    // The ticket, 0 for the quote.
-    pub(crate) fn number(self) -> u32
-        ensures { result ≡ number self }
-    {
-        match self {
-            Party::Row(found) => found.order.ticket,
-            Party::Maker => 0,
-        }
-    }
+// The ticket of a party, 0 for the quote.
+fn number(party: Party) -> u32
+    ensures { result ≡ number party }
+{
+    party.map_or(0, |found| found.order.ticket)
 }
 
 impl Move {
     // What a cross answers that ends at this move, after `count` slips; none where it goes on.
     pub(crate) fn end(self, count: usize, maker: Maker) -> Option<Crossed>
-        ensures { result ≡ end_of self count maker.quote maker.halted }
+        ensures { result ≡ end_of self count maker }
     {
         match self {
             Move::Stop => Some(maker.end(count, None)),
             Move::Ask(ticket) => Some(maker.end(count, Some(ticket))),
-            Move::Deal { .. } => None,
-            Move::Strike { .. } => None,
-            Move::Halt(_) => None,
+            Move::Deal { .. } | Move::Strike { .. } | Move::Halt(_) => None,
         }
     }
 }
@@ -66,7 +55,7 @@ pub(crate) fn traded(buyer: Party, seller: Party, price: u32, pieces: u32) -> Sl
     Slip::Trade {
         price,
         pieces,
-        buyer: buyer.number(),
-        seller: seller.number(),
+        buyer: number(buyer),
+        seller: number(seller),
     }
 }

@@ -4,11 +4,12 @@ ghost use Rattle.book.specs.Picks.{settled};
 ghost use Rattle.book.specs.Proposals.{proposal};
 ghost use Rattle.book.specs.Tables.{lower};
 
+use crate::pieces::left;
 use crate::proposal::Proposal;
 use crate::side::Side;
 
-// `pieces` are those left. A brief order is execute-and-cancel (immediate or cancel): what a cross
-// leaves of it goes out.
+// Not an entry with a ticket, since `pieces` are those left. A brief order is execute-and-cancel (immediate
+// or cancel): what a cross leaves of it goes out.
 #[derive(Clone, Copy, PartialEq, Eq)]
 pub struct Order {
     pub ticket: u32,
@@ -34,23 +35,13 @@ impl Order {
     pub(crate) fn lower(self, pieces: u32) -> Option<Order>
         ensures { result ≡ lower pieces self }
     {
-        if pieces < self.pieces {
-            Some(Order {
-                pieces: self.pieces - pieces,
-                ..self
-            })
-        } else {
-            None
-        }
+        left(self.pieces, pieces).map(|pieces| Order { pieces, ..self })
     }
 
     // Whether the order does not wait for the end of an RFE.
     pub(crate) fn is_settled(self, opener: Option<u32>) -> bool
         ensures { result ≡ settled opener self }
     {
-        match opener {
-            None => true,
-            Some(ticket) => self.ticket < ticket,
-        }
+        opener.is_none_or(|ticket| self.ticket < ticket)
     }
 }

@@ -6,16 +6,16 @@ ghost use Rattle.book.specs.Causes.{cause_number};
 #[derive(Clone, Copy, PartialEq, Eq)]
 pub enum Cause {
     // taken out by its sender
-    Cancelled,
+    Cancelled = 1,
     // the price of its pair lay outside the governing quote
-    OutsideQuote,
+    OutsideQuote = 2,
     // execute-and-cancel, and left over
-    Expired,
+    Expired = 3,
     // its trade would have been beyond Limit 2
-    BeyondLimit,
+    BeyondLimit = 4,
 }
 
-// Buyer and seller are tickets, 0 for the quote.
+// Buyer and seller are tickets, 0 for the quote: the rules tell them so, and the laws count by them.
 #[derive(Clone, Copy, PartialEq, Eq)]
 pub enum Slip {
     Trade {
@@ -31,15 +31,10 @@ pub enum Slip {
     },
 }
 
-impl Cause {
-    pub fn number(self) -> u32
-        ensures { result ≡ cause_number self }
-    {
-        match self {
-            Cause::Cancelled => 1,
-            Cause::OutsideQuote => 2,
-            Cause::Expired => 3,
-            Cause::BeyondLimit => 4,
-        }
+impl From<Cause> for u32 {
+    ghost from_gives = { λ cause number. number ≡ cause_number cause };
+
+    fn from(cause: Cause) -> u32 {
+        cause as u32
     }
 }

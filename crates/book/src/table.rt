@@ -1,18 +1,16 @@
 // The 128 places for orders.
 ghost use Rattle.std.specs.Prelude.{◌≡◌};
-ghost use Rattle.book.specs.Cancels.{cancelled, without};
+ghost use Rattle.book.specs.Cancels.{without};
 ghost use Rattle.book.specs.Firsts.{find, is_reached};
 ghost use Rattle.book.specs.Owned.{owned_order};
 ghost use Rattle.book.specs.Places.{blanked, empty_table, lowered, placed, table_of};
-ghost use Rattle.book.specs.Tables.{is_full, place, standing};
+ghost use Rattle.book.specs.Tables.{free, is_full, place, standing};
 
 use crate::fault::BookFault;
 use crate::found::Found;
 use crate::order::Order;
-use crate::pick::Pick;
+use crate::put::put;
 use crate::quote::Quote;
-use crate::ranking::by_time::ByTime;
-use crate::rows;
 
 #[derive(Drop)]
 pub struct Table {
@@ -31,7 +29,7 @@ impl Table {
     pub fn standing(&self) -> usize
         ensures { result ≡ standing self.now.rows }
     {
-        rows::count(&self.rows)
+        self.rows.iter().filter(|row| row.is_some()).count()
     }
 
     // Whether an order stands in every place.
@@ -41,13 +39,23 @@ impl Table {
         128 <= self.standing()
     }
 
+    // The first place with no order.
+    fn free(&self) -> Option<usize>
+        ensures { result ≡ free self.now.rows }
+    {
+        self.rows.iter().position(|row| row.is_none())
+    }
+
     // Puts an order into the first free place. It is refused only with 128 orders standing, and then
     // all stays.
+    #[tactic(auto, using(crate::proofs::Placing::some_free, crate::proofs::Placing::none_free))]
     pub fn place(&mut self, order: Order) -> Result<(), BookFault>
         ensures value { result ≡ placed self.old.rows }
         ensures after { self.new ≡ table_of (place order self.old.rows) }
     {
-        rows::place(&mut self.rows, order)
+        let place = self.free().ok_or(BookFault::Full)?;
+        put(&mut self.rows, place, Some(order));
+        Ok(())
     }
 
     // A trade took `pieces` of the order: what is left of it stays, and with none left the place is
@@ -55,52 +63,46 @@ impl Table {
     pub(crate) fn lower(&mut self, found: Found, pieces: u32)
         ensures { self.new ≡ lowered self.old found pieces }
     {
-        rows::put(&mut self.rows, found.place, found.order.lower(pieces));
+        put(&mut self.rows, found.place, found.order.lower(pieces));
     }
 
     // The place is free.
     pub fn blank(&mut self, place: usize)
         ensures { self.new ≡ blanked self.old place }
     {
-        rows::put(&mut self.rows, place, None);
+        put(&mut self.rows, place, None);
     }
 
-    // The standing order of a sender with that ticket.
+    // The standing order of a sender with that ticket. The two numbers stand apart here and in every call: a struct
+    // would be made by each caller to be taken apart at once.
     pub fn find(&self, sender: u32, ticket: u32) -> Option<Found>
         ensures { result ≡ find sender ticket self.now.rows }
     {
-        // no two orders have one ticket, so any ranking does
-        self.first(&ByTime, Pick::Owned { sender, ticket })
+        self.earliest(|order| order.ticket == ticket && order.sender == sender)
     }
 
     // The same, or the fault that there is none.
     pub fn owned(&self, sender: u32, ticket: u32) -> Result<Found, BookFault>
         ensures { result ≡ owned_order (find sender ticket self.now.rows) }
     {
-        match self.find(sender, ticket) {
-            None => Err(BookFault::NoTicket),
-            Some(found) => Ok(found),
-        }
+        self.find(sender, ticket).ok_or(BookFault::NoTicket)
     }
 
-    // Whether an order of either side reaches the quote.
+    // Whether an order of either side reaches the quote, by the one search that all is proved of.
     pub fn is_reached(&self, quote: Quote) -> bool
         ensures { result ≡ is_reached quote self.now.rows }
     {
-        self.first(&ByTime, Pick::Reaching(quote)).is_some()
+        self.earliest(|order| quote.is_reached(order, order.side))
+            .is_some()
     }
 
     // Takes a sender's order out and gives it back.
     pub fn cancel(&mut self, sender: u32, ticket: u32) -> Result<Found, BookFault>
-        ensures value { result ≡ cancelled (find sender ticket self.old.rows) }
+        ensures value { result ≡ owned_order (find sender ticket self.old.rows) }
         ensures after { self.new ≡ table_of (without (find sender ticket self.old.rows) self.old.rows) }
     {
-        match self.find(sender, ticket) {
-            None => Err(BookFault::NoTicket),
-            Some(found) => {
-                self.blank(found.place);
-                Ok(found)
-            }
-        }
+        let found = self.owned(sender, ticket)?;
+        self.blank(found.place);
+        Ok(found)
     }
 }

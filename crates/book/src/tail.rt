@@ -3,22 +3,21 @@ ghost use Rattle.std.specs.Prelude.{◌≡◌};
 ghost use Rattle.book.specs.Moves.{sweep};
 
 use crate::moves::Move;
-use crate::pick::Pick;
 use crate::ranking::Ranking;
+use crate::situation::Situation;
 use crate::slip::Cause;
-use crate::table::Table;
 
-impl Table {
+impl<'a, R: Ranking> Situation<'a, R> {
     // Execute-and-cancel orders go out, lowest ticket first.
-    pub(crate) fn sweep<R: Ranking>(&self, ranking: &R) -> Move
-        ensures { result ≡ sweep (R.Ranking.ranks ranking.now) self.now.rows }
+    pub(crate) fn sweep(&self) -> Move
+        ensures { result ≡ sweep (R.Ranking.ranks self.now.ranking.now) self.now.table.now.rows }
     {
-        match self.first(ranking, Pick::Brief) {
-            None => Move::Stop,
-            Some(found) => Move::Strike {
+        self.brief().map_or(
+            Move::Stop,
+            |found| Move::Strike {
                 cause: Cause::Expired,
                 found,
             },
-        }
+        )
     }
 }

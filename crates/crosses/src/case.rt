@@ -1,5 +1,5 @@
 // A cross on a small board, and what it has to leave.
-use book::crossed::Crossed;
+use book::crossed::{Crossed, Outcome};
 use book::frame::Frame;
 use book::order::Order;
 use book::quote::Quote;
@@ -7,14 +7,32 @@ use book::ranking::Ranking;
 use book::side::Side;
 use book::slip::{Cause, Slip};
 use book::table::Table;
+use std::iter::repeat;
 use std::process::Abort;
-use std::test::*;
 
-// Ticket, mark, price, pieces: B buys, S sells, b and s do so as execute-and-cancel.
-pub type Row = (u32, u8, u32, u32);
+// What an order does. A brief one does it as execute-and-cancel.
+#[derive(Clone, Copy)]
+pub enum Mark {
+    Buy,
+    Sell,
+    BriefBuy,
+    BriefSell,
+}
 
-// T is a trade: price, pieces, buyer, seller. A digit is a cause: ticket, pieces.
-pub type Line = (u8, u32, u32, u32, u32);
+// An order: ticket, mark, price, pieces.
+#[derive(Clone, Copy)]
+pub struct Row(pub u32, pub Mark, pub u32, pub u32);
+
+// A slip.
+#[derive(Clone, Copy)]
+pub enum Line {
+    // price, pieces, buyer, seller
+    Trade(u32, u32, u32, u32),
+    // ticket and pieces of an order that goes out
+    Outside(u32, u32),
+    Expired(u32, u32),
+    Beyond(u32, u32),
+}
 
 // In every case the governing quote is 99,000 to 101,000.
 pub struct Case {
@@ -23,10 +41,7 @@ pub struct Case {
     pub quote: Option<Quote>,
     pub orders: &'static [Row],
     pub slips: &'static [Line],
-    pub asked: Option<u32>,
-    pub halted: bool,
-    // pieces of bid and ask afterwards, 0 and 0 where no quote stands
-    pub quoted: (u32, u32),
+    pub outcome: Outcome,
     pub left: &'static [Row],
 }
 
@@ -41,41 +56,32 @@ pub const ENTER: Frame = Frame {
 };
 
 pub const OFFER: Frame = Frame {
-    bid: 99_000,
-    ask: 101_000,
-    opener: None,
     entered: false,
-    dynamic: 100_000,
-    limit: 50,
+    ..ENTER
 };
 
 // The end of the RFE that ticket 2 opened.
 pub const ENDED: Frame = Frame {
-    bid: 99_000,
-    ask: 101_000,
     opener: Some(2),
-    entered: false,
-    dynamic: 100_000,
-    limit: 50,
+    ..OFFER
 };
 
-pub const PLAIN: Option<Quote> = Some(Quote {
+// A limit of 0 percent allows 100,000 alone.
+pub const TIGHT: Frame = Frame { limit: 0, ..ENTER };
+
+pub const PLAIN: Quote = Quote {
     number: 1,
     bid: 99_000,
     bid_pieces: 500,
     ask: 101_000,
     ask_pieces: 500,
     flagged: false,
-});
+};
 
-pub const FLAGGED: Option<Quote> = Some(Quote {
-    number: 1,
-    bid: 99_000,
-    bid_pieces: 500,
-    ask: 101_000,
-    ask_pieces: 500,
+pub const FLAGGED: Quote = Quote {
     flagged: true,
-});
+    ..PLAIN
+};
 
 // What no cross writes.
 pub const BLANK: Slip = Slip::Out {
@@ -84,97 +90,88 @@ pub const BLANK: Slip = Slip::Out {
     pieces: 0,
 };
 
-pub fn order_of(row: Row) -> Order {
-    let (ticket, mark, price, pieces) = row;
-    Order {
-        ticket,
-        sender: 7,
-        side: match mark {
-            b'B' | b'b' => Side::Buy,
-            _ => Side::Sell,
-        },
-        price,
-        pieces,
-        brief: mark == b'b' || mark == b's',
+impl From<Row> for Order {
+    fn from(row: Row) -> Order {
+        let Row(ticket, mark, price, pieces) = row;
+        let (side, brief) = match mark {
+            Mark::Buy => (Side::Buy, false),
+            Mark::Sell => (Side::Sell, false),
+            Mark::BriefBuy => (Side::Buy, true),
+            Mark::BriefSell => (Side::Sell, true),
+        };
+        Order {
+            ticket,
+            sender: 7,
+            side,
+            price,
+            pieces,
+            brief,
+        }
     }
 }
 
-fn out(cause: Cause, ticket: u32, pieces: u32) -> Slip {
-    Slip::Out {
-        cause,
-        ticket,
-        pieces,
+impl From<Line> for Slip {
+    fn from(line: Line) -> Slip {
+        let (cause, ticket, pieces) = match line {
+            Line::Trade(price, pieces, buyer, seller) => {
+                return Slip::Trade {
+                    price,
+                    pieces,
+                    buyer,
+                    seller,
+                };
+            }
+            Line::Outside(ticket, pieces) => (Cause::OutsideQuote, ticket, pieces),
+            Line::Expired(ticket, pieces) => (Cause::Expired, ticket, pieces),
+            Line::Beyond(ticket, pieces) => (Cause::BeyondLimit, ticket, pieces),
+        };
+        Slip::Out {
+            cause,
+            ticket,
+            pieces,
+        }
     }
 }
 
-pub fn slip_of(line: Line) -> Slip {
-    let (mark, first, second, buyer, seller) = line;
-    match mark {
-        b'T' => Slip::Trade {
-            price: first,
-            pieces: second,
-            buyer,
-            seller,
-        },
-        b'2' => out(Cause::OutsideQuote, first, second),
-        b'3' => out(Cause::Expired, first, second),
-        _ => out(Cause::BeyondLimit, first, second),
-    }
+// Whether the list begins with these slips, and is untouched after them.
+fn is_written(list: &[Slip; 129], slips: &[Line]) -> bool {
+    let expected = slips.iter().copied().map(Slip::from).chain(repeat(BLANK));
+    list.iter()
+        .zip(expected)
+        .all(|(slip, expected)| *slip == expected)
 }
 
 impl Case {
-    pub fn run<R: Ranking>(&self, rt: &impl Abort, ranking: &R) -> Result<(), Fail> {
+    fn run<R: Ranking>(&self, rt: &impl Abort, ranking: &R) {
         let mut table = Table::new();
         for row in self.orders {
-            assert!(rt; table.place(order_of(*row)).is_ok(), "{}", self.name);
+            assert!(rt; table.place(Order::from(*row)).is_ok(), "{}", self.name);
         }
         let mut list = [BLANK; 129];
         let crossed = table.cross(ranking, self.frame, self.quote, &mut list);
         let expected = Crossed {
             count: self.slips.len(),
-            asked: self.asked,
-            quote: self.quote_left(),
-            halted: self.halted,
+            outcome: self.outcome,
         };
         assert!(rt; crossed == expected, "{}", self.name);
-        self.check_slips(rt, &list)?;
-        self.check_rows(rt, &table)
+        assert!(rt; is_written(&list, self.slips), "{}", self.name);
+        assert!(rt; self.has_left(&table), "{}", self.name);
     }
 
-    fn quote_left(&self) -> Option<Quote> {
-        match self.quote {
-            Some(quote) if self.quoted != (0, 0) => Some(Quote {
-                bid_pieces: self.quoted.0,
-                ask_pieces: self.quoted.1,
-                ..quote
-            }),
-            _ => None,
-        }
+    // The orders that are left stand, and no others.
+    fn has_left(&self, table: &Table) -> bool {
+        let mut left = self.left.iter().copied().map(Order::from);
+        table.standing() == self.left.len()
+            && left.all(|order| {
+                table
+                    .find(order.sender, order.ticket)
+                    .is_some_and(|found| found.order == order)
+            })
     }
+}
 
-    // The slips from the start of the list, and then what was in it.
-    fn check_slips(&self, rt: &impl Abort, list: &[Slip; 129]) -> Result<(), Fail> {
-        for i in 0..129 {
-            let expected = if i < self.slips.len() {
-                slip_of(self.slips[i])
-            } else {
-                BLANK
-            };
-            assert!(rt; list[i] == expected, "{}", self.name);
-        }
-        Ok(())
-    }
-
-    // The orders that are left, and no others.
-    fn check_rows(&self, rt: &impl Abort, table: &Table) -> Result<(), Fail> {
-        assert!(rt; table.standing() == self.left.len(), "{}", self.name);
-        for row in self.left {
-            let order = order_of(*row);
-            match table.find(order.sender, order.ticket) {
-                Some(found) => assert!(rt; found.order == order, "{}", self.name),
-                None => return Err(Fail::new(self.name)),
-            }
-        }
-        Ok(())
+pub fn run_all<R: Ranking>(rt: &impl Abort, ranking: &R, cases: &[Case]) {
+    for case in cases {
+        case.run(rt, ranking);
     }
 }

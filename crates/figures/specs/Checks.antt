@@ -1,6 +1,6 @@
 -- The tests of an order's and a quote's figures: the first that fails is the fault.
 use Rattle.std.specs.Prelude.{ℕ, Bool, cond, Ok, Err, Result, nat_lt}
-use Rattle.figures.specs.declared.check.Offer.{Offer}
+use Rattle.figures.specs.declared.offer.Offer.{Offer}
 use Rattle.figures.specs.declared.fault.Field.{Field}
 use Rattle.figures.specs.declared.fault.Field.TheVariants as field
 use Rattle.figures.specs.declared.fault.FiguresFault.{FiguresFault}
@@ -15,7 +15,7 @@ abbrev pub Checked : Type 0
 Checked = Result (Unit {0}) FiguresFault
 
 -- a test that has to hold, and the fault where it does not
-abbrev pub holds : Bool → FiguresFault → Checked
+abbrev pub holds : {E : Type 0} → Bool → E → Result (Unit {0}) E
 holds passed fault = cond passed (Ok tt) (Err fault)
 
 -- the second check counts only where the first found nothing

@@ -1,8 +1,10 @@
--- Sheets: what one means, the law that it keeps, and the two with tables.
+-- Sheets: what one means, the law that it keeps, and those of the two products.
 use Rattle.std.specs.Prelude.{ℕ, ◌≤◌, List, [], ◌∷◌}
 use Rattle.figures.specs.Bands.{band_of, row}
 use Rattle.figures.specs.declared.band.Band.{Band}
-use Rattle.figures.specs.declared.sheet.Limits.{Limits}
+pub use Rattle.figures.specs.declared.sheet.product.Limits.{Limits}
+pub use Rattle.figures.specs.declared.sheet.product.Product.{Product}
+pub use Rattle.figures.specs.declared.sheet.product.Product.TheVariants.{Leveraged, Investment}
 
 -- the three numbers for one reference price: both limits in percent, the turnover in whole currency
 pub record Measures : Type 0 where
@@ -20,41 +22,43 @@ pub record Lawful (means : ℕ → Measures) : Type 0 where
   pub some : (reference : ℕ) → 1 ≤ (means reference).turnover
   pub few : (reference : ℕ) → (means reference).turnover ≤ 10000000
 
-abbrev pub limits : ℕ → ℕ → Limits
-limits one two = record { one = one; two = two }
+-- ---- the sheets of the two products
 
-abbrev pub leveraged_rows : List (Band Limits)
-leveraged_rows =
-    row 50 (limits 2000 800)
-    ∷ row 1000 (limits 600 300)
-    ∷ row 10000 (limits 300 150)
-    ∷ row 30000 (limits 200 100)
-    ∷ row 300000 (limits 100 50)
-    ∷ row 700000 (limits 60 20)
-    ∷ row 900000 (limits 30 12)
-    ∷ row 3000000 (limits 20 10)
+-- Limit 1, and Limit 2 of either product
+abbrev pub limits : ℕ → ℕ → ℕ → Limits
+limits one two_leveraged two_investment = record { one = one; leveraged = two_leveraged; investment = two_investment }
+
+abbrev pub limit_rows : List (Band Limits)
+limit_rows =
+    row 50 (limits 2000 800 400)
+    ∷ row 1000 (limits 600 300 150)
+    ∷ row 10000 (limits 300 150 75)
+    ∷ row 30000 (limits 200 100 50)
+    ∷ row 300000 (limits 100 50 25)
+    ∷ row 700000 (limits 60 20 10)
+    ∷ row 900000 (limits 30 12 6)
+    ∷ row 3000000 (limits 20 10 5)
     ∷ []
 
-abbrev pub leveraged_limits : ℕ → Limits
-leveraged_limits reference = band_of (limits 15 6) leveraged_rows reference
+abbrev pub limits_above : Limits
+limits_above = limits 15 6 3
+
+abbrev pub limits_at : ℕ → Limits
+limits_at reference = band_of limits_above limit_rows reference
+
+abbrev pub limit_two : Product → Limits → ℕ
+limit_two Leveraged l = l.leveraged
+limit_two Investment l = l.investment
+
+abbrev pub most_turnover : Product → ℕ
+most_turnover Leveraged = 5000000
+most_turnover Investment = 10000000
+
+abbrev pub product : Product → ℕ → Measures
+product p reference = measures (limits_at reference).one (limit_two p (limits_at reference)) (most_turnover p)
 
 abbrev pub leveraged : ℕ → Measures
-leveraged reference = measures (leveraged_limits reference).one (leveraged_limits reference).two 5000000
-
-abbrev pub investment_rows : List (Band Limits)
-investment_rows =
-    row 50 (limits 2000 400)
-    ∷ row 1000 (limits 600 150)
-    ∷ row 10000 (limits 300 75)
-    ∷ row 30000 (limits 200 50)
-    ∷ row 300000 (limits 100 25)
-    ∷ row 700000 (limits 60 10)
-    ∷ row 900000 (limits 30 6)
-    ∷ row 3000000 (limits 20 5)
-    ∷ []
-
-abbrev pub investment_limits : ℕ → Limits
-investment_limits reference = band_of (limits 15 3) investment_rows reference
+leveraged = product Leveraged
 
 abbrev pub investment : ℕ → Measures
-investment reference = measures (investment_limits reference).one (investment_limits reference).two 10000000
+investment = product Investment

@@ -1,24 +1,24 @@
 // The faults of this layer, each with the field that it speaks of.
 ghost use Rattle.std.specs.Prelude.{◌≡◌};
-ghost use Rattle.figures.specs.Refusals.{field_of, figures_refusal, place_of};
+ghost use Rattle.figures.specs.Refusals.{figures_refusal};
 
 use crate::refusal::{Layer, Refusal};
 
 // Which value of a call a fault speaks of: `Price` is an order's price or a quote's bid.
 #[derive(Clone, Copy, PartialEq, Eq, Debug)]
 pub enum Field {
-    Price,
-    Pieces,
-    Ask,
-    AskPieces,
+    Price = 1,
+    Pieces = 2,
+    Ask = 3,
+    AskPieces = 4,
 }
 
 // Which number of a notice a fault speaks of.
 #[derive(Clone, Copy, PartialEq, Eq, Debug)]
 pub enum Term {
-    LimitOne,
-    LimitTwo,
-    Turnover,
+    LimitOne = 1,
+    LimitTwo = 2,
+    Turnover = 3,
 }
 
 #[derive(Clone, Copy, PartialEq, Eq, Debug)]
@@ -37,42 +37,17 @@ pub enum FiguresFault {
     Notice(Term),
 }
 
-impl Field {
-    fn number(self) -> u32
-        ensures { result ≡ field_of self }
-    {
-        match self {
-            Field::Price => 1,
-            Field::Pieces => 2,
-            Field::Ask => 3,
-            Field::AskPieces => 4,
-        }
-    }
-}
+impl From<FiguresFault> for Refusal {
+    ghost from_gives = { λ fault refusal. refusal ≡ figures_refusal fault };
 
-impl Term {
-    fn number(self) -> u32
-        ensures { result ≡ place_of self }
-    {
-        match self {
-            Term::LimitOne => 1,
-            Term::LimitTwo => 2,
-            Term::Turnover => 3,
-        }
-    }
-}
-
-impl FiguresFault {
-    pub fn refusal(self) -> Refusal
-        ensures { result ≡ figures_refusal self }
-    {
-        let (number, field) = match self {
+    fn from(fault: FiguresFault) -> Refusal {
+        let (number, field) = match fault {
             FiguresFault::Sender => (2, 5),
-            FiguresFault::Price(f) => (5, f.number()),
-            FiguresFault::Beyond(f) => (6, f.number()),
-            FiguresFault::Pieces(f) => (7, f.number()),
+            FiguresFault::Price(field) => (5, field as u32),
+            FiguresFault::Beyond(field) => (6, field as u32),
+            FiguresFault::Pieces(field) => (7, field as u32),
             FiguresFault::Crossed => (11, 3),
-            FiguresFault::Notice(t) => (17, t.number()),
+            FiguresFault::Notice(term) => (17, term as u32),
         };
         Refusal {
             number,

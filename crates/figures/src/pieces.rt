@@ -12,8 +12,7 @@ pub fn are_allowed(pieces: u32, price: u32, reference: u32, turnover: u32) -> bo
     ensures { result ≡ are_allowed pieces price reference turnover }
 {
     let most = turnover as u64 * POINTS;
-    1 <= pieces
-        && pieces <= MOST_PIECES
+    (1..=MOST_PIECES).contains(&pieces)
         && pieces as u64 * reference as u64 <= most
         && pieces as u64 * price as u64 <= most
 }

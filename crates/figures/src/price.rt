@@ -34,6 +34,7 @@ pub fn tick(price: u32) -> u32
     find_band(&TICKS, TICK_ABOVE, price)
 }
 
+#[tactic(auto, using(crate::specs::TableRules::tick_some))]
 pub fn is_on_tick(price: u32) -> bool
     ensures { result ≡ on_tick price }
 {
@@ -44,7 +45,7 @@ pub fn is_on_tick(price: u32) -> bool
 pub fn is_in_range(price: u32) -> bool
     ensures { result ≡ in_range price }
 {
-    1 <= price && price <= LAST_PRICE
+    (1..=LAST_PRICE).contains(&price)
 }
 
 pub fn is_price(price: u32) -> bool

@@ -20,12 +20,12 @@ pub struct Refusal {
     pub field: u32,
 }
 
-impl Layer {
-    // The letter that stands for the layer in a record.
-    pub fn letter(self) -> u8
-        ensures { result ≡ letter_of self }
-    {
-        match self {
+// The letter that stands for the layer in a record.
+impl From<Layer> for u8 {
+    ghost from_gives = { λ layer letter. letter ≡ letter_of layer };
+
+    fn from(layer: Layer) -> u8 {
+        match layer {
             Layer::Figures => b'F',
             Layer::Book => b'B',
             Layer::Session => b'S',

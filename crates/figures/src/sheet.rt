@@ -2,13 +2,6 @@
 ghost use Rattle.std.specs.Prelude.{◌≡◌, ℕ};
 ghost use Rattle.figures.specs.Sheets.{Lawful, Measures};
 
-// Both limits of one band, in percent.
-#[derive(Clone, Copy)]
-pub struct Limits {
-    pub one: u32,
-    pub two: u32,
-}
-
 // A sheet means three numbers for each reference price, and gives the same three each time.
 pub trait Sheet: Drop {
     ghost means: { Self → ℕ → Measures };
@@ -28,6 +21,5 @@ pub trait Sheet: Drop {
     ghost lawful: { (sheet : Self) → Lawful (means sheet) };
 }
 
-pub mod investment;
-pub mod leveraged;
 pub mod notice;
+pub mod product;

@@ -1,21 +1,22 @@
 -- What the desk answers to one piece of input, and whether a day is open on it afterwards.
-use Rattle.std.specs.Prelude.{ℕ, List, [], ◌∷◌, Some, None, Ok, Err, Option, Result}
+use Rattle.std.specs.Prelude.{ℕ, List, [], Some, None, Ok, Err, Option, Result}
 use Rattle.records.specs.Reading.{line_of}
 use Rattle.records.specs.declared.line.Line.{Line}
 use Rattle.records.specs.declared.line.Unreadable as records
 use Rattle.session.specs.Opening.{particulars_fault}
 use Rattle.session.specs.Reports.{empty_day}
 use Rattle.session.specs.declared.fault.SessionFault.{SessionFault}
-use Rattle.session.specs.declared.report.Report.{Report}
 use Rattle.session.specs.declared.particulars.Particulars.{Particulars}
-use Rattle.key.specs.Lines.{accepted_line, first_totals, refused_line, second_totals}
-use Rattle.key.specs.Refusals.{program_refusal}
+use Rattle.program.specs.Desks as desk
+use Rattle.program.specs.Lines.{report_lines}
+use Rattle.program.specs.Openings.{opening_answer}
+use Rattle.program.specs.Tellings.{response_lines}
+use Rattle.program.specs.declared.fault.ProgramFault.{ProgramFault}
+use Rattle.program.specs.declared.fault.ProgramFault.TheVariants.{Unreadable, NoDay, DayOpen, Session}
+use Rattle.program.specs.declared.opening.Opening.{Opening}
+use Rattle.program.specs.declared.response.Response.{Response}
+use Rattle.program.specs.declared.response.Response.TheVariants.{Told, Closed}
 use Rattle.key.specs.Requests.{request_of}
-use Rattle.key.specs.declared.desk.Response.{Response}
-use Rattle.key.specs.declared.desk.Response.TheVariants.{Opened, Closed}
-use Rattle.key.specs.declared.fault.ProgramFault.{ProgramFault}
-use Rattle.key.specs.declared.fault.ProgramFault.TheVariants.{Unreadable, NoDay, DayOpen, Session}
-use Rattle.key.specs.declared.request.Opening.{Opening}
 use Rattle.key.specs.declared.request.Request.{Request}
 use Rattle.key.specs.declared.request.Request.TheVariants.{Open, Close}
 
@@ -37,7 +38,7 @@ refused s fault = record { result = Err fault; standing = s }
 
 abbrev pub begun : Opening → Option SessionFault → Outcome
 begun o (Some fault) = refused None (Session fault)
-begun o None = record { result = Ok (Opened o.reference); standing = Some o.reference }
+begun o None = record { result = Ok (Told (opening_answer o)); standing = Some o.reference }
 
 abbrev pub opened : Standing → Opening → Outcome
 opened (Some reference) o = refused (Some reference) DayOpen
@@ -60,13 +61,9 @@ asked_of (Ok l) = request_of l
 unfoldable pub responded : Standing → List ℕ → Outcome
 responded s piece = requested s (asked_of (line_of piece))
 
-abbrev pub report_lines : Report → List Line
-report_lines r = first_totals r ∷ second_totals r ∷ []
-
-abbrev pub response_lines : Result Response ProgramFault → List Line
-response_lines (Ok (Opened reference)) = accepted_line reference ∷ []
-response_lines (Ok (Closed report)) = report_lines report
-response_lines (Err fault) = refused_line (program_refusal fault) ∷ []
+-- the lines that tell an answer: it has no slips
+abbrev pub told : Outcome → desk.Outcome Standing
+told o = record { lines = response_lines o.result []; standing = o.standing }
 
 -- at the end of input a day that is open is closed
 abbrev pub end_lines : Standing → List Line

@@ -3,7 +3,5 @@
 #![tactic(auto)]
 
 pub mod desk;
-pub mod fault;
-pub mod lines;
 pub mod request;
 pub mod whole;

@@ -14,8 +14,5 @@ use whole_key::lent::key_into;
 pub extern "C" fn bojuaty_key(input: &[u8], out: &mut [u8]) -> u64
     ensures { Ported (key_of input.now) (length out.old) out.new result }
 {
-    match key_into(input, out) {
-        Some(count) => count as u64,
-        None => u64::MAX,
-    }
+    key_into(input, out).map_or(u64::MAX, |count| count as u64)
 }

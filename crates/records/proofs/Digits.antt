@@ -1,19 +1,12 @@
 -- A number from its digits, and its digits from a number.
-use Rattle.std.proofs.Common.{◌≡◌, ℕ, ◌+◌, ◌-◌, ◌*◌, ◌^◌, ◌<◌, ◌≤◌, List, [], ◌∷◌, length, get_or, take, drop, Some, Err, refl, ap, ◌∙◌, zero-lt-suc, pow-suc, add-one, arith, take_all}
+use Rattle.std.proofs.Common.{◌≡◌, ℕ, ◌-◌, ◌^◌, ◌<◌, ◌≤◌, List, [], ◌∷◌, length, get_or, take, drop, Some, Err, refl, ap, zero-lt-suc, arith, take_all}
 use native.Mathlib.Nat.{pow-le-pow_right}
 use Rattle.std.proofs.lemmas.Bool.Decides.{nat_tests}
-use Rattle.std.proofs.lemmas.List.{at_drop_more}
-use Rattle.records.specs.Reading.{body_of, digit_of, line_of, more, number_from, unreadable}
-
-pub step : (bs : List ℕ) (i n : ℕ) → i < length bs → number_from (Some n) (drop i bs) ≡ number_from (more (digit_of (get_or bs i 0)) n) (drop (i + 1) bs)
-step bs i n h = at_drop_more (number_from (Some n)) bs i 0 h
+use Rattle.records.specs.Reading.{body_of, digit_of, line_of, unreadable}
 
 -- with fewer than eight digits read, the next one fits
 pub small : (i n : ℕ) → i < 8 → n < 10 ^ i → n < 10000000
 small i n h l = let k : i ≤ 7 = omega arith in let top : 10 ^ i ≤ 10 ^ 7 = pow-le-pow_right (zero-lt-suc 9) k in omega arith
-
-pub grows : (i n d : ℕ) → n < 10 ^ i → d < 10 → n * 10 + d < 10 ^ (i + 1)
-grows i n d l k = let e : 10 ^ (i + 1) ≡ 10 ^ i * 10 = ap (λ m. 10 ^ m) (add-one i) ∙ pow-suc 10 i in omega arith
 
 pub low : (b d : ℕ) → digit_of b ≡ Some d → d < 10
 low b d e = grind (arith, nat_tests)

@@ -4,6 +4,7 @@ use native.Mathlib.Nat.{div-div-eq-div-mul, mul-add-div_right, mul-add-mod_self_
 use Rattle.std.proofs.lemmas.List.{drop_all}
 use Rattle.std.proofs.lemmas.Bool.Decides.{nat_tests}
 use Rattle.records.specs.Reading.{digit_of, field_at, line, line_of, more, number_from, number_of, or_unreadable, then, unreadable}
+use Rattle.records.proofs.Digits.{low}
 use Rattle.records.specs.declared.line.Line.{Line}
 use Rattle.records.specs.declared.line.Unreadable.{Unreadable}
 use Rattle.records.specs.Writing.{bytes_of, digits_of}
@@ -12,16 +13,13 @@ use Rattle.records.specs.Writing.{bytes_of, digits_of}
 digit_byte : (b d : ℕ) → digit_of b ≡ Some d → b ≡ 48 + d
 digit_byte b d e = grind (arith, nat_tests)
 
-digit_low : (b d : ℕ) → digit_of b ≡ Some d → d < 10
-digit_low b d e = grind (arith, nat_tests)
-
 abbrev Behind : List ℕ → ℕ → ℕ → Type 0
 Behind bs m n = (n / 10 ^ length bs ≡ m) × (digits_of (length bs) n ≡ bs)
 
 module _ (b : ℕ) (bs : List ℕ) (m n : ℕ) where
   one_more : (d : ℕ) → digit_of b ≡ Some d → Behind bs (m * 10 + d) n → Behind (b ∷ bs) m n
   one_more d is h =
-      let small : d < 10 = digit_low b d is in
+      let small : d < 10 = low b d is in
       let k : ℕ = length bs in (
         ap (λ (x : ℕ). n / x) (pow-suc 10 k)
             ∙ sym (div-div-eq-div-mul n (10 ^ k) 10)

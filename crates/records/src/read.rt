@@ -1,8 +1,7 @@
 // From bytes to a line.
-ghost use Rattle.std.specs.Prelude.{◌≡◌, ◌+◌, ◌≤◌, length, Ok};
-ghost use Rattle.records.specs.Reading.{body_of, digit_of, field_at, line_of, number_of};
-ghost use Rattle.records.specs.Writing.{bytes_of};
-ghost use Rattle.records.specs.declared.line.Line.{Line};
+ghost use Rattle.std.specs.Prelude.{◌≡◌, ◌+◌, ◌≤◌, length};
+ghost use Rattle.records.specs.Reading.{body_of, digit_of, field_at, number_of};
+ghost use Rattle.records.specs.Conversions.{Reads};
 
 use crate::line::{Line, Unreadable};
 
@@ -22,10 +21,7 @@ fn number_of(digits: &[u8]) -> Option<u32>
 {
     let mut n: u32 = 0;
     for byte in digits {
-        let Some(d) = digit_of(*byte) else {
-            return None;
-        };
-        n = n * 10 + d;
+        n = n * 10 + digit_of(*byte)?;
     }
     Some(n)
 }
@@ -36,13 +32,11 @@ fn field(rest: &[u8], at: usize, size: usize) -> Result<u32, Unreadable>
     requires within { at + size ≤ length rest.now }
     ensures { result ≡ field_at rest.now at size }
 {
-    match number_of(&rest[at..at + size]) {
-        Some(n) => Ok(n),
-        None => Err(Unreadable),
-    }
+    number_of(&rest[at..at + size]).ok_or(Unreadable)
 }
 
-// The digits after letter and mark, up to the newline.
+// The digits after letter and mark, up to the newline. The places are those of the table of the format: a
+// reader of the next digits would hand on what is left, and say no more.
 fn body(letter: u8, mark: u8, rest: &[u8]) -> Result<Line, Unreadable>
     ensures { result ≡ body_of letter mark rest.now }
 {
@@ -60,12 +54,13 @@ fn body(letter: u8, mark: u8, rest: &[u8]) -> Result<Line, Unreadable>
     })
 }
 
-impl Line {
-    // The line that forty bytes hold: they are just what that line is written as.
-    pub fn read(bytes: &[u8]) -> Result<Line, Unreadable>
-        ensures is { result ≡ line_of bytes.now }
-        ensures exact { (l : Line) → result ≡ Ok l → bytes.now ≡ bytes_of l }
-    {
+// The line that forty bytes hold: they are just what that line is written as.
+impl TryFrom<&[u8]> for Line {
+    type Error = Unreadable;
+
+    ghost try_from_gives = { λ bytes result. Reads bytes.now result };
+
+    fn try_from(bytes: &[u8]) -> Result<Line, Unreadable> {
         match bytes {
             [letter, mark, rest @ ..] => body(*letter, *mark, rest),
             _ => Err(Unreadable),

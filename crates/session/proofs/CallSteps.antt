@@ -3,17 +3,16 @@ use Rattle.std.proofs.Common.{◌≡◌, ℕ, ◌+◌, ◌<◌, ◌≤◌, Bool,
 use Rattle.std.proofs.lemmas.List.{length-set}
 use Rattle.std.proofs.lemmas.List.Sums.{sum_by-set}
 use Rattle.std.proofs.lemmas.Bool.{and_parts, cond_both, eqb-true, leb-false, leb-true, or_from}
-use Rattle.figures.specs.declared.check.Offer.{Offer}
+use Rattle.figures.specs.declared.offer.Offer.{Offer}
 use Rattle.book.specs.Firsts.{best, find, is_reached}
 use Rattle.book.specs.Ledger.{out_by, traded_by}
 use Rattle.book.specs.Makes.{board_of, gone, on_quote}
 use Rattle.book.specs.Moments.{halts, without}
-use Rattle.book.specs.Picks.{earlier, picked, reaches}
+use Rattle.book.specs.Picks.{Owned, Reaching, earlier, picked, reaches}
 use Rattle.book.specs.Ranks.{RankLaw}
 use Rattle.book.specs.Tables.{At, Rows, left, place, lower_quote, standing, worth}
 use Rattle.book.specs.declared.found.Found.{Found}
 use Rattle.book.specs.declared.order.Order.{Order}
-use Rattle.book.specs.declared.pick.Pick.TheVariants.{Owned, Reaching}
 use Rattle.book.specs.declared.quote.Quote.{Quote}
 use Rattle.book.specs.declared.side.Side.TheVariants.{Sell}
 use Rattle.book.specs.declared.slip.Cause.TheVariants.{Cancelled}

@@ -90,9 +90,6 @@ quiet_less new old q s Q =
         go Buy k = rw f.price k
         go Sell k = rw f.price k
 
-pub quiet_dark : (rows : Rows) (q : Option Quote) → Quiet rows q → Quiet rows None
-quiet_dark rows q Q = record { apart = Q.apart; unreached = λ x i o e a. none_some x e }
-
 -- ---- one order more
 module _ (test : ℕ → Bool) (rows : Rows) (count : ℕ) (T : GoodRows test rows count) (o : Order) (fresh : o.ticket ≡ count + 1) where
   pub table_more : standing rows < 128 → test o.price ≡ true → 1 ≤ o.pieces → GoodRows test (place o rows) o.ticket

@@ -1,5 +1,5 @@
 -- What an accepted call leaves alone, and how many slips it writes: one more than a cross, for a cancel.
-use Rattle.std.proofs.Common.{◌≡◌, ℕ, ◌≤◌, Bool, true, false, cond, leb, length, Some, None, Option, refl, arith}
+use Rattle.std.proofs.Common.{◌≡◌, ℕ, ◌≤◌, Bool, true, false, leb, length, Some, None, Option, refl, arith}
 use Rattle.std.proofs.lemmas.Bool.{cond_both}
 use Rattle.book.specs.Firsts.{is_reached}
 use Rattle.book.specs.declared.order.Order.{Order}
@@ -21,10 +21,6 @@ crossing_same : (d : Day) (s : State) (q : Quote) (stands : Option Quote) (enter
 unfolding crossing
 crossing_same d s q stands entered = refl
 
-either : (s : State) (v : Bool) (a b : Acted) → Same s a → Same s b → Same s (cond v a b)
-either s true a b x y = x
-either s false a b x y = y
-
 entering_same : (d : Day) (s : State) (o : Order) (p : Phase) → Same s (entering d s o p)
 entering_same d s o Dark = refl
 entering_same d s o (Lit q) = crossing_same d (placing s o) q (Some q) true
@@ -34,7 +30,7 @@ entering_same d s o (Halted until) = refl
 cancelling_same : (d : Day) (s : State) (p : Phase) → Same s (cancelling d s p)
 cancelling_same d s Dark = refl
 cancelling_same d s (Lit q) = refl
-cancelling_same d s (Asked q r) = either s (is_reached q s.table.rows) (still s) (crossing d s q (Some q) false) refl (crossing_same d s q (Some q) false)
+cancelling_same d s (Asked q r) = cond_both (is_reached q s.table.rows) (still s) (crossing d s q (Some q) false) (Same s) (λ _. refl) (λ _. crossing_same d s q (Some q) false)
 cancelling_same d s (Halted until) = refl
 
 putting_same : (d : Day) (s : State) (q : Quote) (p : Phase) → Same s (putting d s q p)
@@ -52,7 +48,7 @@ withdrawing_same d s (Halted until) = refl
 ticking_same : (d : Day) (s : State) (p : Phase) → Same s (ticking d s p)
 ticking_same d s Dark = refl
 ticking_same d s (Lit q) = refl
-ticking_same d s (Asked q r) = either s (leb r.due s.clock) (withdrawing d s (Asked q r)) (still s) (withdrawing_same d s (Asked q r)) refl
+ticking_same d s (Asked q r) = cond_both (leb r.due s.clock) (withdrawing d s (Asked q r)) (still s) (Same s) (λ _. withdrawing_same d s (Asked q r)) (λ _. refl)
 ticking_same d s (Halted until) = cond_both (leb until s.clock) (with_phase s Dark) s (λ z. z.totals ≡ s.totals) (λ _. refl) (λ _. refl)
 
 pub acted_totals : (d : Day) (s : State) (act : Act) → (acted d s act).state.totals ≡ s.totals
@@ -69,10 +65,6 @@ Fits a = length a.slips ≤ 129
 
 none : (s : State) → Fits (still s)
 none s = omega arith
-
-either_few : (v : Bool) (a b : Acted) → Fits a → Fits b → Fits (cond v a b)
-either_few true a b x y = x
-either_few false a b x y = y
 
 entering_few : (d : Day) (s : State) (o : Order) (p : Phase) → Fits (entering d s o p)
 entering_few d s o Dark = none s
@@ -95,7 +87,7 @@ withdrawing_few d s (Halted until) = none s
 ticking_few : (d : Day) (s : State) (p : Phase) → Fits (ticking d s p)
 ticking_few d s Dark = none s
 ticking_few d s (Lit q) = none s
-ticking_few d s (Asked q r) = either_few (leb r.due s.clock) (withdrawing d s (Asked q r)) (still s) (withdrawing_few d s (Asked q r)) (none s)
+ticking_few d s (Asked q r) = cond_both (leb r.due s.clock) (withdrawing d s (Asked q r)) (still s) Fits (λ _. withdrawing_few d s (Asked q r)) (λ _. none s)
 ticking_few d s (Halted until) = none (restarted s until)
 
 pub enter_few : (d : Day) (s : State) (o : Order) → Few d s (Enter o)

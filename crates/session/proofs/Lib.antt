@@ -13,7 +13,7 @@ pub mod OnEdge
 pub mod Passing
 pub mod Pasts
 pub mod Placings
-pub mod Rooms
+pub mod LowTotals
 pub mod Steps
 pub mod StoriesBite
 pub mod StoriesKeep

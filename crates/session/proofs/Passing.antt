@@ -3,10 +3,9 @@ use Rattle.std.proofs.Common.{◌≡◌, ℕ, ◌+◌, ◌<◌, ◌≤◌, Bool,
 use Rattle.std.proofs.lemmas.Bool.{and_parts, eqb-true, leb-false, leb-true, ltb-true, not-true}
 use Rattle.figures.specs.Checks as figures
 use Rattle.figures.specs.Checks.{Checked, beyond_check, cross_check, order_check, pieces_check, price_check, quote_check, sender_check}
-use Rattle.figures.specs.declared.check.Offer.{Offer}
+use Rattle.figures.specs.declared.offer.Offer.{Offer}
 use Rattle.figures.specs.Pieces.{are_allowed}
 use Rattle.figures.specs.declared.fault.Field.TheVariants as field
-use Rattle.figures.specs.declared.fault.FiguresFault.{FiguresFault}
 use Rattle.figures.specs.declared.fault.FiguresFault.TheVariants.{Beyond, Crossed, Pieces}
 use Rattle.book.specs.Admits.{Admitted, checked_then, numbered, order_admitted, quote_admitted}
 use Rattle.book.specs.Owned.{owned_order}
@@ -20,7 +19,6 @@ use Rattle.session.specs.Days.{Day, State}
 use Rattle.session.specs.Phases.{is_asked, is_dark, is_halted, opener_of, quote_of}
 use Rattle.session.specs.StoryFair.{in_limit1}
 use Rattle.session.specs.declared.entry.Entry.{Entry}
-use Rattle.session.specs.declared.fault.SessionFault.{SessionFault}
 
 err_ok : {A E : Type 0} {B : Type 0} (f : E) (a : A) → ◌≡◌ {A = Result A E} (Err f) (Ok a) → B
 err_ok f a e = let z : ◌≡◌ {A = ℕ} 0 1 = cc in absurd (omega arith)
@@ -29,7 +27,7 @@ then_ok : {A B : Type 0} (r : Passed A) (f : A → Passed B) (b : B) → then r 
 then_ok (Ok a) f b e = (a, refl, e)
 then_ok (Err x) f b e = err_ok x b e
 
-holds_ok : (p : Bool) (x : SessionFault) (u : Unit {0}) → holds p x ≡ Ok u → p ≡ true
+holds_ok : {E : Type 0} (p : Bool) (x : E) (u : Unit {0}) → holds p x ≡ Ok u → p ≡ true
 holds_ok true x u e = refl
 holds_ok false x u e = err_ok x u e
 
@@ -42,10 +40,6 @@ book_ok (Ok b) a e = let k : b ≡ a = cc in ap (λ z. Ok z) k
 book_ok (Err x) a e = err_ok _ a e
 
 -- ---- the figures
-test_ok : (p : Bool) (x : FiguresFault) (u : Unit {0}) → figures.holds p x ≡ Ok u → p ≡ true
-test_ok true x u e = refl
-test_ok false x u e = err_ok x u e
-
 and_ok : (r k : Checked) (u : Unit {0}) → figures.and r k ≡ Ok u → (r ≡ Ok tt) × (k ≡ Ok tt)
 and_ok (Ok v) k u e = (refl, e)
 and_ok (Err x) k u e = err_ok x u e
@@ -81,9 +75,9 @@ order_figures : (d : Day) (price pieces : ℕ) (u : Unit {0}) → order_check d.
 order_figures d price pieces u e =
     let a = and_ok _ _ u e in
     let b = and_ok _ _ tt a.1 in
-    let c = and_parts _ _ (test_ok _ _ tt b.1) in
+    let c = and_parts _ _ (holds_ok _ _ tt b.1) in
     record {
-      within = test_ok _ _ tt b.0;
+      within = holds_ok _ _ tt b.0;
       some = leb-true 1 pieces c.0;
       few = leb-true pieces 10000000 (and_parts _ _ c.1).0;
     }
@@ -112,12 +106,12 @@ quote_figures d o u e =
     let g = and_ok ask_in c1 tt f.1 in
     let h = and_ok bid ask tt g.1 in
     record {
-      in_order = ltb-true _ _ (test_ok _ Crossed tt c.0);
-      bid_within = test_ok _ (Beyond field.Price) tt f.0;
-      ask_within = test_ok _ (Beyond field.Ask) tt g.0;
-      some_bid = leb-true _ _ (and_parts _ _ (test_ok
+      in_order = ltb-true _ _ (holds_ok _ Crossed tt c.0);
+      bid_within = holds_ok _ (Beyond field.Price) tt f.0;
+      ask_within = holds_ok _ (Beyond field.Ask) tt g.0;
+      some_bid = leb-true _ _ (and_parts _ _ (holds_ok
           (are_allowed o.bid_pieces o.bid d.reference (d.means d.reference).turnover) (Pieces field.Pieces) tt h.0)).0;
-      some_ask = leb-true _ _ (and_parts _ _ (test_ok
+      some_ask = leb-true _ _ (and_parts _ _ (holds_ok
           (are_allowed o.ask_pieces o.ask d.reference (d.means d.reference).turnover) (Pieces field.AskPieces) tt
           h.1)).0;
     }

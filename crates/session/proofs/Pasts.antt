@@ -20,7 +20,7 @@ use Rattle.session.proofs.StoriesKeep.{Kept, any_price, every_history, every_sto
 
 -- the day of a book is lawful, its sheet and its ranking being so
 pub lawful_day : {S R : Type 0} (means : S → ℕ → Measures) (ranks : R → Rank) → ((s : S) → Lawful (means s)) → ((r : R) → RankLaw (ranks r)) →
-    (t : Terms S R) → LawfulDay t.reference t.reply (day_of means ranks t)
+    (t : Terms S R) → LawfulDay t.particulars.reference t.particulars.reply (day_of means ranks t)
 lawful_day means ranks sheets rankings t = record { sheet = sheets t.sheet; ranking = rankings t.ranking; same = refl; replies = refl }
 
 module _ {reference reply : ℕ} (s : State) where
@@ -56,9 +56,22 @@ module _ {reference reply : ℕ} (s : State) where
   called d l c paper held new e h =
       ∥∥₁_map h (λ p. subst (Past reference reply) (sym e) (record { events = _; history = more p.history d l c paper held }))
 
+-- the same for a call under the book's own sheet and ranking
+pub longer : {S R : Type 0} (means : S → ℕ → Measures) (ranks : R → Rank) → ((s : S) → Lawful (means s)) → ((r : R) → RankLaw (ranks r)) →
+    (t : Terms S R) (s : State) (c : Call) (paper : List Slip) (held : ℕ) (new : State) →
+    new ≡ (yields (day_of means ranks t) s (length paper) held c).state → ∥ Past t.particulars.reference t.particulars.reply s ∥₁ → ∥ Past t.particulars.reference t.particulars.reply new ∥₁
+longer means ranks sheets rankings t s c paper held new e h =
+    called s (day_of means ranks t) (lawful_day means ranks sheets rankings t) c paper held new e h
+
 pub opened : (reference reply : ℕ) (new : State) → new ≡ fresh reference → ∥ Past reference reply new ∥₁
 opened reference reply new e = ∣ subst (Past reference reply) (sym e) (record { events = []; history = begun }) ∣₁
 
-pub promised : (d : Day) → RankLaw d.rank → (s : State) → ∥ Past d.reference d.reply s ∥₁ → Promised d s
-promised d L s h =
-    record { stories = λ es. every_story d L es s; past = h; histories = λ es. every_history d.reference d.reply es s }
+-- whatever led to a book, it keeps the laws
+pub promised : {S R : Type 0} (means : S → ℕ → Measures) (ranks : R → Rank) → ((r : R) → RankLaw (ranks r)) →
+    (t : Terms S R) (s : State) → ∥ Past t.particulars.reference t.particulars.reply s ∥₁ → Promised (day_of means ranks t) s
+promised means ranks rankings t s h =
+    record {
+      stories = λ es. every_story (day_of means ranks t) (rankings t.ranking) es s;
+      past = h;
+      histories = λ es. every_history t.particulars.reference t.particulars.reply es s;
+    }

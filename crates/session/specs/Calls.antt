@@ -1,6 +1,6 @@
 -- What each call answers, with book, slips and summons afterwards.
 use Rattle.std.specs.Prelude.{ℕ, ◌+◌, ◌/◌, Bool, true, false, cond, List, [], length, Some, None, Ok, Err, sum_by, Option, ◌==◌, nat_lt}
-use Rattle.figures.specs.declared.check.Offer.{Offer}
+use Rattle.figures.specs.declared.offer.Offer.{Offer}
 use Rattle.book.specs.declared.order.Order.{Order}
 use Rattle.book.specs.declared.quote.Quote.{Quote}
 use Rattle.book.specs.declared.slip.Slip.{Slip}

@@ -1,7 +1,8 @@
 -- The tests of each call, in their order: the first that fails is the refusal.
-use Rattle.std.specs.Prelude.{ℕ, Bool, cond, not, ◌&&◌, is_some, Ok, Err, Result, ◌==◌, nat_le}
+use Rattle.std.specs.Prelude.{ℕ, Bool, not, ◌&&◌, is_some, Ok, Err, Result, ◌==◌, nat_le}
 use Rattle.figures.specs.Checks.{Checked, quote_check, sender_check}
-use Rattle.figures.specs.declared.check.Offer.{Offer}
+pub use Rattle.figures.specs.Checks.{holds}
+use Rattle.figures.specs.declared.offer.Offer.{Offer}
 use Rattle.book.specs.Admits.{order_admitted, quote_admitted}
 use Rattle.book.specs.Firsts.{find}
 use Rattle.book.specs.Owned.{owned_order}
@@ -16,10 +17,6 @@ use Rattle.session.specs.declared.fault.SessionFault.TheVariants.{ShortList, Hal
 
 abbrev pub Passed : Type 0 → Type 0
 Passed A = Result A SessionFault
-
--- a test that has to hold, and the fault where it does not
-abbrev pub holds : Bool → SessionFault → Passed (Unit {0})
-holds passed fault = cond passed (Ok tt) (Err fault)
 
 -- a later test counts only where the earlier ones found nothing
 abbrev pub then : {A B : Type 0} → Passed A → (A → Passed B) → Passed B

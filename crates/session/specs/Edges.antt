@@ -2,7 +2,7 @@
 use Rattle.std.specs.Prelude.{◌≡◌, ℕ, true, false, List, [], ◌∷◌}
 use Rattle.figures.specs.Edges.{FigureEdges}
 use Rattle.figures.specs.Sheets.{leveraged}
-use Rattle.figures.specs.declared.check.Offer.{Offer}
+use Rattle.figures.specs.declared.offer.Offer.{Offer}
 use Rattle.book.specs.Causes.{cause_number}
 use Rattle.book.specs.Ranks.{by_time}
 use Rattle.book.specs.declared.side.Side.{Side}

@@ -13,6 +13,13 @@ kind_of (Lit q) = kind.Lit
 kind_of (Asked q r) = kind.Asked
 kind_of (Halted until) = kind.Halted
 
+-- the letter of a phase in a record: D, L, R and H
+abbrev pub phase_letter : PhaseKind → ℕ
+phase_letter kind.Dark = 68
+phase_letter kind.Lit = 76
+phase_letter kind.Asked = 82
+phase_letter kind.Halted = 72
+
 -- the quote that stands: one that is being asked does
 abbrev pub quote_of : Phase → Option Quote
 quote_of Dark = None

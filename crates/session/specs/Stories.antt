@@ -1,6 +1,6 @@
 -- Stories: what was called, one call after another, from an opened book.
 use Rattle.std.specs.Prelude.{ℕ, Bool, List, [], ◌∷◌, length, Ok, Err}
-use Rattle.figures.specs.declared.check.Offer.{Offer}
+use Rattle.figures.specs.declared.offer.Offer.{Offer}
 use Rattle.book.specs.Cross.{written}
 use Rattle.book.specs.declared.slip.Slip.{Slip}
 use Rattle.session.specs.Calls.{Outcome, cancelled, collecting, declined, entered, quoted, renewed, spent_by, summons_of, ticked, validated, withdrawn}

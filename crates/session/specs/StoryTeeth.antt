@@ -1,6 +1,6 @@
 -- What worthless engines would give: the laws are false of each of these days.
 use Rattle.std.specs.Prelude.{ℕ, true, false, List, [], ◌∷◌, length, replicate}
-use Rattle.figures.specs.declared.check.Offer.{Offer}
+use Rattle.figures.specs.declared.offer.Offer.{Offer}
 use Rattle.book.specs.Cross.{written}
 use Rattle.book.specs.declared.quote.Quote.{Quote}
 use Rattle.book.specs.declared.side.Side.{Side}

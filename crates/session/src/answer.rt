@@ -2,7 +2,7 @@
 use crate::phase::PhaseKind;
 
 // The phase and the dynamic price are those after the call; `number` is the order's ticket or the
-// quote's number; `opener` is the opening ticket of the open RFE, or 0.
+// quote's number, or 0, and `opener` the opening ticket of the open RFE, or 0: the rules tell both as plain numbers.
 #[derive(Clone, Copy, PartialEq, Eq, Debug)]
 pub struct Answer {
     pub phase: PhaseKind,

@@ -47,11 +47,11 @@ impl From<FiguresFault> for SessionFault {
     }
 }
 
-impl SessionFault {
-    pub fn refusal(self) -> Refusal
-        ensures { result ≡ session_refusal self }
-    {
-        let (number, field) = match self {
+impl From<SessionFault> for Refusal {
+    ghost from_gives = { λ fault refusal. refusal ≡ session_refusal fault };
+
+    fn from(fault: SessionFault) -> Refusal {
+        let (number, field) = match fault {
             SessionFault::ShortList => (1, 0),
             SessionFault::Halted => (3, 0),
             SessionFault::Dark => (4, 0),
@@ -61,7 +61,7 @@ impl SessionFault {
             SessionFault::Reference => (15, 1),
             SessionFault::ReplyTime => (15, 5),
             SessionFault::Seconds => (16, 5),
-            SessionFault::Book(fault) => return fault.refusal(),
+            SessionFault::Book(fault) => return Refusal::from(fault),
         };
         Refusal {
             number,

@@ -11,6 +11,7 @@ pub fn stories_are_lawful() -> u8
 
 // A history in which each event tells its own sheet and ranking keeps what does not hang on them,
 // and each event keeps the laws of its own.
+#[tactic(auto, using(crate::proofs::StoriesKeep::every_history))]
 pub fn histories_are_lawful() -> u8
     ensures { EveryHistory }
 {
@@ -18,6 +19,7 @@ pub fn histories_are_lawful() -> u8
 }
 
 // The laws are false of what worthless engines would give.
+#[tactic(auto, using(crate::proofs::StoriesBite::story_teeth))]
 pub fn laws_bite() -> u8
     ensures { StoryTeeth }
 {

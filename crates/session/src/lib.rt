@@ -12,6 +12,7 @@ pub mod laws;
 pub mod open_book;
 pub mod particulars;
 pub mod phase;
+pub mod quotation;
 pub mod report;
 pub mod state;
 pub mod summons;

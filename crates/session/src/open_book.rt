@@ -10,7 +10,7 @@ use figures::sheet::Sheet;
 pub struct Book<S: Sheet, R: Ranking> {
     terms: Terms<S, R>,
     state: State,
-    ghost past: { ∥ Past terms.reference terms.reply state ∥₁ },
+    ghost past: { ∥ Past terms.particulars.reference terms.particulars.reply state ∥₁ },
 }
 
 mod calls;

@@ -4,6 +4,7 @@ ghost use Rattle.figures.specs.Prices.{in_range};
 ghost use Rattle.session.specs.Opening.{is_reply_time, particulars_fault};
 
 use crate::fault::SessionFault;
+use figures::check::check;
 use figures::price::is_in_range;
 
 pub const LONGEST_REPLY: u32 = 60;
@@ -20,19 +21,15 @@ pub struct Particulars {
 fn is_reply_time(seconds: u32) -> bool
     ensures { result ≡ is_reply_time seconds }
 {
-    1 <= seconds && seconds <= LONGEST_REPLY
+    (1..=LONGEST_REPLY).contains(&seconds)
 }
 
 impl Particulars {
     pub fn new(reference: u32, reply: u32) -> Result<Particulars, SessionFault>
         ensures { MatchResult result (λ p. (particulars_fault reference reply ≡ None) × (p.reference ≡ reference) × (p.reply ≡ reply)) (λ e. particulars_fault reference reply ≡ Some e) }
     {
-        if !is_in_range(reference) {
-            return Err(SessionFault::Reference);
-        }
-        if !is_reply_time(reply) {
-            return Err(SessionFault::ReplyTime);
-        }
+        check(is_in_range(reference), SessionFault::Reference)?;
+        check(is_reply_time(reply), SessionFault::ReplyTime)?;
         Ok(Particulars { reference, reply })
     }
 

@@ -1,6 +1,6 @@
 // What a book is doing.
 ghost use Rattle.std.specs.Prelude.{◌≡◌};
-ghost use Rattle.session.specs.Phases.{is_asked, is_dark, is_halted, kind_of, opener_of, opening_of, quote_of};
+ghost use Rattle.session.specs.Phases.{is_asked, is_dark, is_halted, kind_of, opener_of, opening_of, phase_letter, quote_of};
 
 use book::quote::Quote;
 
@@ -32,6 +32,20 @@ pub enum PhaseKind {
     Halted,
 }
 
+// The letter that stands for the phase in a record.
+impl From<PhaseKind> for u8 {
+    ghost from_gives = { λ phase letter. letter ≡ phase_letter phase };
+
+    fn from(phase: PhaseKind) -> u8 {
+        match phase {
+            PhaseKind::Dark => b'D',
+            PhaseKind::Lit => b'L',
+            PhaseKind::Asked => b'R',
+            PhaseKind::Halted => b'H',
+        }
+    }
+}
+
 impl Phase {
     pub(crate) fn kind(self) -> PhaseKind
         ensures { result ≡ kind_of self }
@@ -49,10 +63,8 @@ impl Phase {
         ensures { result ≡ quote_of self }
     {
         match self {
-            Phase::Dark => None,
-            Phase::Lit(quote) => Some(quote),
-            Phase::Asked(quote, _) => Some(quote),
-            Phase::Halted(_) => None,
+            Phase::Lit(quote) | Phase::Asked(quote, _) => Some(quote),
+            Phase::Dark | Phase::Halted(_) => None,
         }
     }
 
@@ -66,42 +78,28 @@ impl Phase {
         }
     }
 
-    // The opening ticket of the open RFE, or 0.
+    // The same, or 0: the rules tell that no RFE is open by this number.
     pub(crate) fn opener(self) -> u32
         ensures { result ≡ opener_of self }
     {
-        match self {
-            Phase::Dark => 0,
-            Phase::Lit(_) => 0,
-            Phase::Asked(_, rfe) => rfe.opener,
-            Phase::Halted(_) => 0,
-        }
+        self.opening().unwrap_or(0)
     }
 
     pub(crate) fn is_dark(self) -> bool
         ensures { result ≡ is_dark self }
     {
-        match self {
-            Phase::Dark => true,
-            _ => false,
-        }
+        matches!(self, Phase::Dark)
     }
 
     pub(crate) fn is_asked(self) -> bool
         ensures { result ≡ is_asked self }
     {
-        match self {
-            Phase::Asked(_, _) => true,
-            _ => false,
-        }
+        matches!(self, Phase::Asked(..))
     }
 
     pub(crate) fn is_halted(self) -> bool
         ensures { result ≡ is_halted self }
     {
-        match self {
-            Phase::Halted(_) => true,
-            _ => false,
-        }
+        matches!(self, Phase::Halted(_))
     }
 }

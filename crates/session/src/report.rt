@@ -3,7 +3,7 @@ ghost use Rattle.std.specs.Prelude.{◌≡◌};
 ghost use Rattle.session.specs.Reports.{empty_day};
 
 // Orders that are left, and pieces summed over tickets: accepted, done in trades, gone out, left.
-#[derive(Clone, Copy, PartialEq, Eq, Debug)]
+#[derive(Clone, Copy, PartialEq, Eq, Debug, Default)]
 pub struct Report {
     pub orders: u32,
     pub accepted: u64,
@@ -17,12 +17,6 @@ impl Report {
     pub fn of_empty_day() -> Report
         ensures { result ≡ empty_day }
     {
-        Report {
-            orders: 0,
-            accepted: 0,
-            done: 0,
-            out: 0,
-            left: 0,
-        }
+        Report::default()
     }
 }

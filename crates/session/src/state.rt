@@ -3,7 +3,8 @@ use crate::phase::Phase;
 use book::table::Table;
 
 // `count` is the last number given out, `collected` the highest opening ticket whose summons was
-// collected.
+// collected. That the totals are bounded is asked of each call by a clause: a ghost field here would put a proof into
+// every state that a definition builds.
 #[derive(Drop)]
 pub struct State {
     pub clock: u32,
@@ -16,7 +17,7 @@ pub struct State {
 }
 
 // Pieces summed over tickets: a trade between two orders counts for both.
-#[derive(Clone, Copy)]
+#[derive(Clone, Copy, Default)]
 pub struct Totals {
     pub accepted: u64,
     pub done: u64,

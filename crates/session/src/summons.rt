@@ -1,8 +1,8 @@
 // The right of the Specialist to reply to one RFE.
 ghost use Rattle.std.specs.Prelude.{◌≡◌};
 
-// Told by the opening ticket of its RFE. A blank has 0, and so has one that is spent: no other may be
-// let go.
+// A plain number by the rules: the opening ticket of its RFE. A blank has 0, and so has one that is spent: no
+// other may be let go.
 pub struct Summons {
     pub(crate) number: u32,
 }

@@ -1,49 +1,44 @@
 // The figures of orders and quotes: each refusal, and which comes first.
-use figures::check::{Offer, check_order, check_quote, check_sender};
-use figures::fault::FiguresFault;
+use crate::refusals::{self, said};
+use figures::instrument::Instrument;
+use figures::offer::Offer;
 use figures::refusal::{Layer, Refusal};
-use figures::sheet::leveraged::Leveraged;
+use figures::sender::check_sender;
+use figures::sheet::product::Product;
 
-const REFERENCE: u32 = 100_000;
+const INSTRUMENT: Instrument<'static, Product> = Instrument {
+    sheet: &Product::Leveraged,
+    reference: 100_000,
+};
 
-fn refused(number: u32, field: u32) -> Option<Refusal> {
-    Some(Refusal {
-        number,
-        layer: Layer::Figures,
-        field,
-    })
-}
-
-fn said(checked: Result<(), FiguresFault>) -> Option<Refusal> {
-    match checked {
-        Ok(()) => None,
-        Err(fault) => Some(fault.refusal()),
-    }
+fn sender(number: u32) -> Option<Refusal> {
+    said(check_sender(number))
 }
 
 fn order(price: u32, pieces: u32) -> Option<Refusal> {
-    said(check_order(&Leveraged, REFERENCE, price, pieces))
+    said(INSTRUMENT.check_order(price, pieces))
 }
 
 fn quote(bid: u32, bid_pieces: u32, ask: u32, ask_pieces: u32) -> Option<Refusal> {
-    said(check_quote(
-        &Leveraged,
-        REFERENCE,
-        Offer {
-            bid,
-            bid_pieces,
-            ask,
-            ask_pieces,
-        },
-    ))
+    said(INSTRUMENT.check_quote(Offer {
+        bid,
+        bid_pieces,
+        ask,
+        ask_pieces,
+    }))
+}
+
+// Every refusal here is one of the figures.
+fn refused(number: u32, field: u32) -> Option<Refusal> {
+    refusals::refused(number, Layer::Figures, field)
 }
 
 #[test]
 fn senders_are_1_to_99999(rt: HostRuntime) {
-    assert_eq!(rt; said(check_sender(1)), None);
-    assert_eq!(rt; said(check_sender(99_999)), None);
-    assert_eq!(rt; said(check_sender(0)), refused(2, 5));
-    assert_eq!(rt; said(check_sender(100_000)), refused(2, 5));
+    assert_eq!(rt; sender(1), None);
+    assert_eq!(rt; sender(99_999), None);
+    assert_eq!(rt; sender(0), refused(2, 5));
+    assert_eq!(rt; sender(100_000), refused(2, 5));
 }
 
 #[test]
@@ -74,7 +69,7 @@ fn a_quote_is_tested_number_by_number_bid_before_ask(rt: HostRuntime) {
 #[test]
 fn the_widest_numbers_are_refused_and_nothing_overflows(rt: HostRuntime) {
     let most = u32::MAX;
-    assert_eq!(rt; said(check_sender(most)), refused(2, 5));
+    assert_eq!(rt; sender(most), refused(2, 5));
     assert_eq!(rt; order(most, most), refused(5, 1));
     assert_eq!(rt; quote(most, most, most, most), refused(5, 1));
 }

@@ -15,34 +15,25 @@ const LINE: Line = Line {
 
 #[test]
 fn a_line_has_forty_bytes(rt: HostRuntime) {
-    let bytes = LINE.write();
+    let bytes = <[u8; 40]>::from(LINE);
     assert_eq!(rt; &bytes, b"QF0004200099000000000079999999900000000\n");
-    assert_eq!(rt; Line::read(&bytes), Ok(LINE));
+    assert_eq!(rt; Line::try_from(bytes.as_slice()), Ok(LINE));
 }
+
+const NO_LINES: [&[u8]; 6] = [
+    b"",
+    b"QF0004200099000000000079999999900000000",
+    b"QF0004200099000000000079999999900000000 ",
+    b"QF0004200099000000000079999999900000000\n\n",
+    b"QF000420009900000000007999999990000000-\n",
+    b"QF 004200099000000000079999999900000000\n",
+];
 
 #[test]
 fn bytes_that_are_no_line_are_unreadable(rt: HostRuntime) {
-    assert_eq!(rt; Line::read(b""), Err(Unreadable));
-    assert_eq!(rt;
-        Line::read(b"QF0004200099000000000079999999900000000"),
-        Err(Unreadable)
-    );
-    assert_eq!(rt;
-        Line::read(b"QF0004200099000000000079999999900000000 "),
-        Err(Unreadable)
-    );
-    assert_eq!(rt;
-        Line::read(b"QF0004200099000000000079999999900000000\n\n"),
-        Err(Unreadable)
-    );
-    assert_eq!(rt;
-        Line::read(b"QF000420009900000000007999999990000000-\n"),
-        Err(Unreadable)
-    );
-    assert_eq!(rt;
-        Line::read(b"QF 004200099000000000079999999900000000\n"),
-        Err(Unreadable)
-    );
+    for bytes in NO_LINES {
+        assert_eq!(rt; Line::try_from(bytes), Err(Unreadable), "{bytes:?}");
+    }
 }
 
 #[test]

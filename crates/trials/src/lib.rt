@@ -9,6 +9,8 @@ mod keys;
 #[cfg(test)]
 mod notices;
 #[cfg(test)]
+mod refusals;
+#[cfg(test)]
 mod sessions;
 #[cfg(test)]
 mod sheets;

@@ -5,13 +5,6 @@ use figures::sheet::Sheet;
 use figures::sheet::notice::Notice;
 use std::test::Fail;
 
-fn fault_of(one: u32, two: u32, most: u32) -> Option<FiguresFault> {
-    match Notice::new(one, two, most) {
-        Ok(_) => None,
-        Err(fault) => Some(fault),
-    }
-}
-
 #[test]
 fn a_notice_answers_its_three_numbers(rt: HostRuntime) -> Result<(), Fail> {
     let notice = Notice::new(50, 100, 7)?;
@@ -23,22 +16,22 @@ fn a_notice_answers_its_three_numbers(rt: HostRuntime) -> Result<(), Fail> {
 
 #[test]
 fn the_first_number_against_the_law_is_named(rt: HostRuntime) {
-    assert_eq!(rt; fault_of(0, 0, 1), None);
-    assert_eq!(rt; fault_of(2_000, 2_000, 10_000_000), None);
+    assert_eq!(rt; Notice::new(0, 0, 1).err(), None);
+    assert_eq!(rt; Notice::new(2_000, 2_000, 10_000_000).err(), None);
     assert_eq!(rt;
-        fault_of(2_001, 2_001, 0),
+        Notice::new(2_001, 2_001, 0).err(),
         Some(FiguresFault::Notice(Term::LimitOne))
     );
     assert_eq!(rt;
-        fault_of(2_000, 2_001, 0),
+        Notice::new(2_000, 2_001, 0).err(),
         Some(FiguresFault::Notice(Term::LimitTwo))
     );
     assert_eq!(rt;
-        fault_of(2_000, 2_000, 0),
+        Notice::new(2_000, 2_000, 0).err(),
         Some(FiguresFault::Notice(Term::Turnover))
     );
     assert_eq!(rt;
-        fault_of(0, 0, 10_000_001),
+        Notice::new(0, 0, 10_000_001).err(),
         Some(FiguresFault::Notice(Term::Turnover))
     );
 }
@@ -52,7 +45,7 @@ fn a_notice_is_refused_with_number_17(rt: HostRuntime) {
     ];
     for (term, field) in places {
         assert_eq!(rt;
-            FiguresFault::Notice(term).refusal(),
+            Refusal::from(FiguresFault::Notice(term)),
             Refusal {
                 number: 17,
                 layer: Layer::Figures,

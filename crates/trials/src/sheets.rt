@@ -1,7 +1,6 @@
 // Both tables of limits at each edge of their bands.
 use figures::sheet::Sheet;
-use figures::sheet::investment::Investment;
-use figures::sheet::leveraged::Leveraged;
+use figures::sheet::product::Product;
 
 // Reference, Limit 1, Limit 2 leveraged, Limit 2 investment.
 const EDGES: [(u32, u32, u32, u32); 18] = [
@@ -28,17 +27,17 @@ const EDGES: [(u32, u32, u32, u32); 18] = [
 #[test]
 fn each_band_has_its_limits(rt: HostRuntime) {
     for (reference, one, leveraged, investment) in EDGES {
-        assert_eq!(rt; Leveraged.limit_one(reference), one);
-        assert_eq!(rt; Leveraged.limit_two(reference), leveraged);
-        assert_eq!(rt; Investment.limit_one(reference), one);
-        assert_eq!(rt; Investment.limit_two(reference), investment);
+        assert_eq!(rt; Product::Leveraged.limit_one(reference), one);
+        assert_eq!(rt; Product::Leveraged.limit_two(reference), leveraged);
+        assert_eq!(rt; Product::Investment.limit_one(reference), one);
+        assert_eq!(rt; Product::Investment.limit_two(reference), investment);
     }
 }
 
 #[test]
 fn turnover_is_the_same_for_every_reference(rt: HostRuntime) {
     for reference in [1, 50, 100_000, 99_999_999] {
-        assert_eq!(rt; Leveraged.turnover(reference), 5_000_000);
-        assert_eq!(rt; Investment.turnover(reference), 10_000_000);
+        assert_eq!(rt; Product::Leveraged.turnover(reference), 5_000_000);
+        assert_eq!(rt; Product::Investment.turnover(reference), 10_000_000);
     }
 }

@@ -2,7 +2,7 @@
 
 #![tactic(auto)]
 
-use anyhow::anyhow;
+use anyhow::{anyhow, bail};
 use std::io::{Read, Write};
 use std::process::ExitCode;
 use std::{env, fs};
@@ -49,37 +49,33 @@ fn read_arguments(rt: &HostRuntime) -> anyhow::Result<Source> {
         return Ok(Source::StandardInput);
     };
     if arguments.next().is_some() {
-        return Err(anyhow!("more than one argument: see whole_day --help"));
+        bail!("more than one argument: see whole_day --help");
     }
     if argument.as_str() == "--help" {
         return Ok(Source::Help);
     }
     if argument.as_str().starts_with('-') {
-        return Err(anyhow!("there is no such option: see whole_day --help"));
+        bail!("there is no such option: see whole_day --help");
     }
     Ok(Source::File(argument))
 }
 
 fn read_standard_input(rt: &HostRuntime) -> anyhow::Result<Vec<u8>> {
     let mut input = Vec::new(rt.alloc());
-    match rt.stdin().read_to_end(&mut input) {
-        Ok(_) => Ok(input),
-        Err(e) => Err(anyhow!(format!(in rt.alloc(); "standard input cannot be read: {e}")?)),
-    }
+    rt.stdin()
+        .read_to_end(&mut input)
+        .map_err(|e| anyhow!("standard input cannot be read: {e}"))?;
+    Ok(input)
 }
 
 fn read_file(rt: &HostRuntime, path: &str) -> anyhow::Result<Vec<u8>> {
-    match fs::read(rt, path) {
-        Ok(input) => Ok(input),
-        Err(e) => Err(anyhow!(format!(in rt.alloc(); "{path} cannot be read: {e}")?)),
-    }
+    fs::read(rt, path).map_err(|e| anyhow!("{path} cannot be read: {e}"))
 }
 
 fn write(rt: &HostRuntime, text: &[u8]) -> anyhow::Result<()> {
-    match rt.stdout().write_all(text) {
-        Ok(()) => Ok(()),
-        Err(e) => Err(anyhow!(format!(in rt.alloc(); "standard output cannot be written: {e}")?)),
-    }
+    rt.stdout()
+        .write_all(text)
+        .map_err(|e| anyhow!("standard output cannot be written: {e}"))
 }
 
 fn answer(rt: &HostRuntime, input: &[u8]) -> anyhow::Result<()> {

@@ -15,10 +15,11 @@ use Rattle.session.specs.StoryCounts.{counts}
 use Rattle.session.specs.declared.act.Act.{Act}
 use Rattle.session.specs.declared.answer.Answer.{Answer}
 use Rattle.session.specs.declared.state.State.{State}
+use Rattle.session.proofs.Passing.{cancel_passed}
 use Rattle.session.proofs.Keeps.{clock_few, enter_few, put_few, withdraw_few}
-use Rattle.session.proofs.Rooms.{cancel_found}
 use Rattle.session.proofs.Pasts.{cancel_fits_by}
-use Rattle.whole_key.specs.Tellings.{reply_lines, told_lines, yield_lines}
+use Rattle.program.specs.Tellings.{told_lines}
+use Rattle.whole_key.specs.Tellings.{reply_lines, yield_lines}
 
 -- an answer tells the opening ticket of the open RFE
 abbrev pub TellsOpener : Reply → State → Type 0
@@ -51,7 +52,7 @@ counted d L s k held (Enter e) =
     guarded_counted s held (enter_check d s 129 e) _ (λ ticket is. done_counted d _ _ ticket held (enter_few d _ _))
 counted d L s k held (Cancel sender ticket) =
     guarded_counted s held (cancel_check s 129 sender ticket) _
-    (λ f is. done_counted d s _ 0 held (cancel_fits_by s d L k sender ticket f (cancel_found s 129 sender ticket f (sym is))))
+    (λ f is. done_counted d s _ 0 held (cancel_fits_by s d L k sender ticket f (cancel_passed s 129 sender ticket f is).1))
 counted d L s k held (Quoting o flagged) =
     guarded_counted s held (quote_test d s 129 o) _ (λ number is. done_counted d _ _ number held (put_few d _ _))
 counted d L s k held Withdraw = guarded_counted s held (withdraw_check s 129) _ (λ u is. done_counted d s _ 0 held (withdraw_few d s))

@@ -24,22 +24,24 @@ use Rattle.session.proofs.StoriesKeep.{every_story}
 use Rattle.whole_key.specs.Calls.{call_of}
 use Rattle.whole_key.specs.Desks.{Standing, asked_of, begun, ended, requested, responded}
 use Rattle.whole_key.specs.KeptDays.{Carries, Closes, Kept, KeptDay, Refuses, asked, day, input_ends, none, refused}
+use Rattle.program.specs.Desks.{answers_by}
 use Rattle.whole_key.specs.Keys.{answers}
-use Rattle.whole_key.specs.Lines.{answer_line, refused_line, report_lines}
-use Rattle.whole_key.specs.Papers.{blank_paper}
-use Rattle.whole_key.specs.Refusals.{program_refusal}
-use Rattle.whole_key.specs.Seats.{Seat, after, day_for, fresh_seat, makes, opening_answer, settled, tidied}
+use Rattle.program.specs.Lines.{answer_line, refused_line, report_lines}
+use Rattle.program.specs.Papers.{blank_paper}
+use Rattle.program.specs.Refusals.{program_refusal}
+use Rattle.program.specs.Openings.{opening_answer}
+use Rattle.whole_key.specs.Seats.{Seat, after, day_for, fresh_seat, makes, settled, tidied}
 use Rattle.whole_key.specs.Tellings.{end_lines, reply_lines, yield_lines}
 use Rattle.whole_key.specs.ToldDays.{Ended, Piece, Silent, Tells, collects, declined, declines, event_lines, nothing, plain, refusal_lines, second_opening, silent, spoken, unreadable}
-use Rattle.whole_key.specs.declared.fault.ProgramFault.{ProgramFault}
-use Rattle.whole_key.specs.declared.fault.ProgramFault.TheVariants.{Unreadable, NoDay, DayOpen, Session}
+use Rattle.program.specs.declared.fault.ProgramFault.{ProgramFault}
+use Rattle.program.specs.declared.fault.ProgramFault.TheVariants.{Unreadable, NoDay, DayOpen, Session}
 use Rattle.whole_key.specs.declared.request.Call.{Call as KeyCall}
-use Rattle.whole_key.specs.declared.request.Opening.{Opening}
+use Rattle.program.specs.declared.opening.Opening.{Opening}
 use Rattle.whole_key.specs.declared.request.Request.{Request}
 use Rattle.whole_key.specs.declared.request.Request.TheVariants as request
 use Rattle.whole_key.proofs.Counting.{Counted, TellsOpener, read_back}
 use Rattle.whole_key.proofs.Holding.{Tidy, declined_closes, none_open, settled_tidy, stepped}
-use Rattle.whole_key.proofs.Lawful.{ranking_lawful}
+use Rattle.program.proofs.Lawful.{ranking_lawful}
 use Rattle.whole_key.proofs.Tidying.{declined_still}
 
 -- a day from its opening on: its events, what was asked, and what was told
@@ -230,7 +232,7 @@ stops (Some seat) = λ o first asks told opens priced R tidy.
     (ends o priced asks first opens [] [] input_ends told [] seat R tidy none)
 
 holds : (ps : List Piece) (s : Standing) → Holds s ps (answers s ps)
-unfolding answers responded
+unfolding answers_by responded
 holds [] s = stops s
 holds (p ∷ ps) s = steps_on p ps (answers (responded s p).standing ps) s (asked_of p) refl (holds ps (responded s p).standing)
 

@@ -1,7 +1,7 @@
 -- A cross that no enter began opens no RFE: a validate ends the RFE, and so does a decline with its summons.
 use Rattle.std.proofs.Common.{◌≡◌, ℕ, zero, suc, Bool, true, false, ◌&&◌, leb, Some, None, Ok, Err, Option, sym, refl, ap, subst, arith}
 use Rattle.std.proofs.lemmas.Bool.{and_parts, cond_both, eq-eqb}
-use Rattle.figures.specs.declared.check.Offer.{Offer}
+use Rattle.figures.specs.declared.offer.Offer.{Offer}
 use Rattle.book.specs.Boards.{Board}
 use Rattle.book.specs.Cross.{Run, onwards, work}
 use Rattle.book.specs.Firsts.{first}
@@ -13,8 +13,8 @@ use Rattle.book.specs.declared.found.Found.{Found}
 use Rattle.book.specs.declared.frame.Frame.{Frame}
 use Rattle.book.specs.declared.moves.Move.{Move}
 use Rattle.book.specs.declared.moves.Move.TheVariants.{Stop, Ask, Deal, Strike, Halt}
-use Rattle.book.specs.declared.moves.Party.{Party}
-use Rattle.book.specs.declared.pick.Pick.TheVariants.{Any, Partner, Taking}
+use Rattle.book.specs.Moves.{Party}
+use Rattle.book.specs.Picks.{Any, Partner, Taking}
 use Rattle.book.specs.declared.proposal.Proposal.{Proposal}
 use Rattle.book.specs.declared.quote.Quote.{Quote}
 use Rattle.book.specs.declared.side.Side.{Side}

@@ -149,8 +149,8 @@ never_handed : (seat : Seat) (c : KeyCall) → Replied (makes seat (call_of c)).
 unfolding yields
 never_handed seat (key.Enter e) = is_replied _
 never_handed seat (key.Cancel sender ticket) = is_replied _
-never_handed seat (key.Quote o flagged) = is_replied _
-never_handed seat (key.Validate o flagged) = is_replied _
+never_handed seat (key.Quote q) = is_replied _
+never_handed seat (key.Validate q) = is_replied _
 never_handed seat (key.Clock seconds) = is_replied _
 never_handed seat key.Withdraw = is_replied _
 never_handed seat key.Decline = is_replied _
@@ -194,9 +194,9 @@ module _ (d : Day) (L : RankLaw d.rank) {es : List Event} {s : State} (st : Stor
   unfolding yields
   answered (key.Enter e) a is = keeps_held (Enter e) a is refl
   answered (key.Cancel sender ticket) a is = keeps_held (Cancel sender ticket) a is refl
-  answered (key.Quote o flagged) a is = keeps_held (Quoting o flagged) a is refl
-  answered (key.Validate o flagged) a is =
-      ends_held (Validate o flagged) (validated_ends d s 129 held o flagged a (answered_ok a (validated d s 129 held o flagged).result (sym is)))
+  answered (key.Quote q) a is = keeps_held (Quoting q.offer q.flagged) a is refl
+  answered (key.Validate q) a is =
+      ends_held (Validate q.offer q.flagged) (validated_ends d s 129 held q.offer q.flagged a (answered_ok a (validated d s 129 held q.offer q.flagged).result (sym is)))
   answered (key.Clock seconds) a is = keeps_held (Clock seconds) a is refl
   answered key.Withdraw a is = keeps_held Withdraw a is refl
   answered key.Decline a is = ends_held Decline (declined_ends d s held same)

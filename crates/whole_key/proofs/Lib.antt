@@ -1,10 +1,5 @@
 pub mod Counting
-pub mod Cutting
 pub mod Days
 pub mod Endings
 pub mod Holding
-pub mod Keying
-pub mod Lawful
-pub mod Lending
-pub mod Pages
 pub mod Tidying

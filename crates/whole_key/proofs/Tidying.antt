@@ -12,9 +12,10 @@ use Rattle.session.specs.Stories.{Answered, Collect, Decline, replied, yields}
 use Rattle.session.specs.declared.answer.Answer.{Answer}
 use Rattle.session.specs.declared.report.Report.{Report}
 use Rattle.session.specs.declared.state.State.{State}
-use Rattle.whole_key.specs.Lines.{report_lines}
+use Rattle.program.specs.Lines.{report_lines}
 use Rattle.whole_key.specs.Seats.{Seat, after, makes, tidied}
-use Rattle.whole_key.specs.Tellings.{end_lines, told_lines, yield_lines}
+use Rattle.program.specs.Tellings.{told_lines}
+use Rattle.whole_key.specs.Tellings.{end_lines, yield_lines}
 use Rattle.whole_key.proofs.Counting.{Counted, told_lines_lem}
 
 abbrev still_as : State → Outcome

@@ -6,8 +6,8 @@ use Rattle.whole_key.specs.declared.request.Call.TheVariants.{Enter, Cancel, Quo
 abbrev pub call_of : Call → session.Call
 call_of (Enter e) = session.Enter e
 call_of (Cancel sender ticket) = session.Cancel sender ticket
-call_of (Quote o flagged) = session.Quoting o flagged
-call_of (Validate o flagged) = session.Validate o flagged
+call_of (Quote q) = session.Quoting q.offer q.flagged
+call_of (Validate q) = session.Validate q.offer q.flagged
 call_of (Clock seconds) = session.Clock seconds
 call_of Withdraw = session.Withdraw
 call_of Decline = session.Decline

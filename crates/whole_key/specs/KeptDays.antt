@@ -9,13 +9,14 @@ use Rattle.session.specs.StoryLaws.{Laws}
 use Rattle.session.specs.declared.fault.SessionFault.{SessionFault}
 use Rattle.session.specs.declared.state.State.{State}
 use Rattle.whole_key.specs.Desks.{asked_of}
-use Rattle.whole_key.specs.Lines.{answer_line, refused_line, report_lines}
-use Rattle.whole_key.specs.Refusals.{program_refusal}
-use Rattle.whole_key.specs.Seats.{day_for, opening_answer}
+use Rattle.program.specs.Lines.{answer_line, refused_line, report_lines}
+use Rattle.program.specs.Refusals.{program_refusal}
+use Rattle.program.specs.Openings.{opening_answer}
+use Rattle.whole_key.specs.Seats.{day_for}
 use Rattle.whole_key.specs.ToldDays.{Ended, Piece}
-use Rattle.whole_key.specs.declared.fault.ProgramFault.{ProgramFault}
-use Rattle.whole_key.specs.declared.fault.ProgramFault.TheVariants.{Unreadable, NoDay, Session}
-use Rattle.whole_key.specs.declared.request.Opening.{Opening}
+use Rattle.program.specs.declared.fault.ProgramFault.{ProgramFault}
+use Rattle.program.specs.declared.fault.ProgramFault.TheVariants.{Unreadable, NoDay, Session}
+use Rattle.program.specs.declared.opening.Opening.{Opening}
 use Rattle.whole_key.specs.declared.request.Request.{Request}
 use Rattle.whole_key.specs.declared.request.Request.TheVariants as request
 

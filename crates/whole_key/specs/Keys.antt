@@ -1,37 +1,14 @@
--- The key of an input: cut every forty bytes, each piece answered in turn.
-use Rattle.std.specs.Prelude.{◌≡◌, ℕ, zero, suc, ◌≤◌, List, [], ◌∷◌, ◌++◌, length, take, drop, None}
+-- The key of an input: each piece answered in turn.
+use Rattle.std.specs.Prelude.{ℕ, List, None}
 use Rattle.records.specs.declared.line.Line.{Line}
+use Rattle.program.specs.Cuts.{pieces}
+use Rattle.program.specs.Desks.{answers_by}
+use Rattle.program.specs.Written.{written}
 use Rattle.whole_key.specs.Desks.{Standing, ended, responded}
-use Rattle.whole_key.specs.Written.{written}
-
--- at most n pieces
-unfoldable pub cut : ℕ → List ℕ → List (List ℕ)
-cut zero bytes = []
-cut (suc n) [] = []
-cut (suc n) (b ∷ bs) = take 40 (b ∷ bs) ∷ cut n (drop 40 (b ∷ bs))
-
--- an input has no more pieces than bytes
-abbrev pub pieces : List ℕ → List (List ℕ)
-pieces bytes = cut (length bytes) bytes
-
--- what it is to be cut every forty bytes: nothing is lost, each piece has forty bytes, and only the last may have fewer
-abbrev pub joined : List (List ℕ) → List ℕ
-joined [] = []
-joined (p ∷ ps) = p ++ joined ps
-
-abbrev pub Sized : List (List ℕ) → Type 0
-Sized [] = Unit {0}
-Sized (p ∷ []) = (1 ≤ length p) × (length p ≤ 40)
-Sized (p ∷ q ∷ ps) = (length p ≡ 40) × Sized (q ∷ ps)
-
-pub record CutEvenly (bytes : List ℕ) : Type 0 where
-  pub whole : joined (pieces bytes) ≡ bytes
-  pub sized : Sized (pieces bytes)
 
 -- what is answered to one piece after another
-unfoldable pub answers : Standing → List (List ℕ) → List Line
-answers s [] = ended s
-answers s (p ∷ ps) = let o = responded s p in o.lines ++ answers o.standing ps
+abbrev pub answers : Standing → List (List ℕ) → List Line
+answers = answers_by responded ended
 
 unfoldable pub key_of : List ℕ → List ℕ
 key_of bytes = written (answers None (pieces bytes))

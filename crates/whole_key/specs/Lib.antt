@@ -1,14 +1,8 @@
 pub mod Calls
-pub mod Chosen
 pub mod Desks
 pub mod KeptDays
 pub mod Keys
-pub mod Lent
-pub mod Lines
-pub mod Papers
-pub mod Refusals
 pub mod Requests
 pub mod Seats
 pub mod Tellings
 pub mod ToldDays
-pub mod Written

@@ -1,15 +1,14 @@
 -- What stands on the desk while a day is open: the book, and the summons that the desk holds.
 use Rattle.std.specs.Prelude.{ℕ, cond, ◌==◌}
-use Rattle.session.specs.Calls.{answer_of}
+use Rattle.figures.specs.Sheets.{product}
+use Rattle.program.specs.declared.opening.Opening.{Opening}
 use Rattle.session.specs.Days.{Day, fresh}
 use Rattle.session.specs.Phases.{opener_of}
 use Rattle.session.specs.Stories.{Call, Collect, Decline, Reply, Refused, Answered, Handed, Yield, yields}
 use Rattle.session.specs.Terms.{day_of}
-use Rattle.session.specs.declared.answer.Answer.{Answer}
 use Rattle.session.specs.declared.state.State.{State}
-use Rattle.whole_key.specs.Chosen.{ranking_means, sheet_means}
+use Rattle.program.specs.Rankings.{ranking_means}
 use Rattle.whole_key.specs.declared.open_day.OpenDay.{OpenDay}
-use Rattle.whole_key.specs.declared.request.Opening.{Opening}
 
 -- a blank summons is 0
 pub record Seat : Type 0 where
@@ -18,17 +17,14 @@ pub record Seat : Type 0 where
   pub held : ℕ
 
 abbrev pub seat_of : OpenDay → Seat
-seat_of o = record { day = day_of sheet_means ranking_means o.book.terms; state = o.book.state; held = o.summons.number }
+seat_of o = record { day = day_of product ranking_means o.book.terms; state = o.book.state; held = o.summons.number }
 
 -- the day that an opening asks for, and its fresh book
 abbrev pub day_for : Opening → Day
-day_for o = record { means = sheet_means o.sheet; rank = ranking_means o.ranking; reference = o.reference; reply = o.reply }
+day_for o = record { means = product o.sheet; rank = ranking_means o.ranking; reference = o.reference; reply = o.reply }
 
 abbrev pub fresh_seat : Opening → Seat
 fresh_seat o = record { day = day_for o; state = fresh o.reference; held = 0 }
-
-abbrev pub opening_answer : Opening → Answer
-opening_answer o = answer_of (fresh o.reference) 0 0
 
 -- a call with the held summons, and a list of 129 places
 abbrev pub makes : Seat → Call → Yield

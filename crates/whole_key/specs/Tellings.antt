@@ -1,5 +1,5 @@
 -- How the reply to a call is told: its slips, then its answer; or its refusal.
-use Rattle.std.specs.Prelude.{cond, List, [], ◌∷◌, ◌++◌, map, take, Ok, Err, Result, ◌==◌}
+use Rattle.std.specs.Prelude.{cond, List, [], ◌∷◌, ◌++◌, take, Ok, Err, ◌==◌}
 use Rattle.book.specs.declared.slip.Slip.{Slip}
 use Rattle.records.specs.declared.line.Line.{Line}
 use Rattle.session.specs.Checks.{Passed}
@@ -7,15 +7,9 @@ use Rattle.session.specs.Closing.{report_of}
 use Rattle.session.specs.Refusals.{session_refusal}
 use Rattle.session.specs.Stories.{Decline, Reply, Refused, Answered, Handed, Yield}
 use Rattle.session.specs.declared.answer.Answer.{Answer}
-use Rattle.whole_key.specs.Lines.{answer_line, refused_line, report_lines, slip_line}
-use Rattle.whole_key.specs.Refusals.{program_refusal}
+use Rattle.program.specs.Lines.{refused_line, report_lines}
+use Rattle.program.specs.Tellings.{told_lines}
 use Rattle.whole_key.specs.Seats.{Seat, makes}
-use Rattle.whole_key.specs.declared.fault.ProgramFault.{ProgramFault}
-use Rattle.whole_key.specs.declared.response.Response.{Response}
-use Rattle.whole_key.specs.declared.response.Response.TheVariants.{Told, Closed, Declined}
-
-abbrev pub told_lines : List Slip → Answer → List Line
-told_lines slips a = map slip_line slips ++ (answer_line a ∷ [])
 
 -- no record collects
 abbrev pub reply_lines : Reply → List Slip → List Line
@@ -30,12 +24,6 @@ yield_lines y = reply_lines y.reply y.slips
 abbrev pub result_lines : Passed Answer → List Slip → List Line
 result_lines (Ok a) paper = told_lines (take a.slips paper) a
 result_lines (Err fault) paper = refused_line (session_refusal fault) ∷ []
-
-abbrev pub response_lines : Result Response ProgramFault → List Slip → List Line
-response_lines (Ok (Told a)) paper = told_lines (take a.slips paper) a
-response_lines (Ok (Closed report)) paper = report_lines report
-response_lines (Ok (Declined a report)) paper = told_lines (take a.slips paper) a ++ report_lines report
-response_lines (Err fault) paper = refused_line (program_refusal fault) ∷ []
 
 -- the end of a day: a summons that is held is declined first
 abbrev pub end_lines : Seat → List Line

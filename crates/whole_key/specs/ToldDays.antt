@@ -7,13 +7,13 @@ use Rattle.session.specs.Stories.{Event}
 use Rattle.session.specs.StoryCounts.{slips_of}
 use Rattle.whole_key.specs.Calls.{call_of}
 use Rattle.whole_key.specs.Desks.{asked_of}
-use Rattle.whole_key.specs.Lines.{refused_line}
-use Rattle.whole_key.specs.Refusals.{program_refusal}
+use Rattle.program.specs.Lines.{refused_line}
+use Rattle.program.specs.Refusals.{program_refusal}
 use Rattle.whole_key.specs.Tellings.{reply_lines}
-use Rattle.whole_key.specs.declared.fault.ProgramFault.{ProgramFault}
-use Rattle.whole_key.specs.declared.fault.ProgramFault.TheVariants.{Unreadable, DayOpen}
+use Rattle.program.specs.declared.fault.ProgramFault.{ProgramFault}
+use Rattle.program.specs.declared.fault.ProgramFault.TheVariants.{Unreadable, DayOpen}
 use Rattle.whole_key.specs.declared.request.Call.{Call}
-use Rattle.whole_key.specs.declared.request.Opening.{Opening}
+use Rattle.program.specs.declared.opening.Opening.{Opening}
 use Rattle.whole_key.specs.declared.request.Request.TheVariants as request
 
 -- forty bytes of the input, or the last few

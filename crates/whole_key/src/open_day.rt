@@ -1,37 +1,24 @@
 // The day that is open on the desk.
-ghost use Rattle.std.specs.Prelude.{◌≡◌};
-ghost use Rattle.whole_key.specs.Papers.{blank_paper};
-
-use crate::request::{RankingKind, SheetKind};
-use book::slip::Slip;
-use session::check::PLACES;
+use figures::sheet::product::Product;
+use program::paper::blank_paper;
+use program::ranking::RankingKind;
 use session::open_book::Book;
 use session::summons::Summons;
 
-// The summons is that of the open RFE, or a blank.
+// The summons is that of the open RFE, or a blank. No `impl Model` shows a `Seat`, which holds functions: what
+// the sheet and the ranking mean.
 pub struct OpenDay {
-    book: Book<SheetKind, RankingKind>,
+    book: Book<Product, RankingKind>,
     summons: Summons,
-}
-
-// A list with a place for each slip of one call.
-pub(crate) fn blank_paper() -> [Slip; PLACES]
-    ensures { result ≡ blank_paper }
-{
-    [Slip::Trade {
-        price: 0,
-        pieces: 0,
-        buyer: 0,
-        seller: 0,
-    }; PLACES]
 }
 
 // A day that is given up is closed too, and its summons declined: neither could be let go otherwise.
 impl Drop for OpenDay {
     fn drop(self) {
-        let OpenDay { book, summons } = self;
-        let mut book = book;
-        let mut summons = summons;
+        let OpenDay {
+            mut book,
+            mut summons,
+        } = self;
         let mut paper = blank_paper();
         let _ = book.decline(&mut summons, &mut paper);
         let _ = book.close();

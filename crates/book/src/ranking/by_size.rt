@@ -3,7 +3,8 @@ ghost use Rattle.book.specs.Ranks.{by_size};
 ghost use Rattle.std.proofs.Common.{rules};
 
 use crate::proposal::Proposal;
-use crate::ranking::{Ranking, is_better};
+use crate::ranking::Ranking;
+use crate::ranking::by_time::ByTime;
 use crate::side::Side;
 
 #[derive(Clone, Copy)]
@@ -15,12 +16,10 @@ impl Ranking for BySize {
     ghost lawful = { Prim.search rules };
 
     fn ahead(&self, side: Side, a: Proposal, b: Proposal) -> bool {
-        if a.price != b.price {
-            is_better(side, a.price, b.price)
-        } else if a.pieces == b.pieces {
-            a.number < b.number
-        } else {
+        if a.price == b.price && a.pieces != b.pieces {
             b.pieces < a.pieces
+        } else {
+            ByTime.ahead(side, a, b)
         }
     }
 }

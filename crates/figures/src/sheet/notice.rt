@@ -4,6 +4,7 @@ ghost use Rattle.figures.specs.Notices.{notice_fault};
 ghost use Rattle.figures.specs.Sheets.{measures};
 ghost use Rattle.std.proofs.Common.{rules};
 
+use crate::check::check;
 use crate::fault::{FiguresFault, Term};
 use crate::sheet::Sheet;
 
@@ -27,15 +28,12 @@ impl Notice {
     pub fn new(one: u32, two: u32, most: u32) -> Result<Notice, FiguresFault>
         ensures { MatchResult result (λ n. (notice_fault one two most ≡ None) × (n.one ≡ one) × (n.two ≡ two) × (n.most ≡ most)) (λ e. notice_fault one two most ≡ Some e) }
     {
-        if one > HIGHEST_LIMIT {
-            return Err(FiguresFault::Notice(Term::LimitOne));
-        }
-        if two > HIGHEST_LIMIT {
-            return Err(FiguresFault::Notice(Term::LimitTwo));
-        }
-        if most < 1 || most > HIGHEST_TURNOVER {
-            return Err(FiguresFault::Notice(Term::Turnover));
-        }
+        check(one <= HIGHEST_LIMIT, FiguresFault::Notice(Term::LimitOne))?;
+        check(two <= HIGHEST_LIMIT, FiguresFault::Notice(Term::LimitTwo))?;
+        check(
+            (1..=HIGHEST_TURNOVER).contains(&most),
+            FiguresFault::Notice(Term::Turnover),
+        )?;
         Ok(Notice { one, two, most })
     }
 }
@@ -45,15 +43,15 @@ impl Sheet for Notice {
 
     ghost lawful = { Prim.search rules };
 
-    fn limit_one(&self, reference: u32) -> u32 {
+    fn limit_one(&self, _reference: u32) -> u32 {
         self.one
     }
 
-    fn limit_two(&self, reference: u32) -> u32 {
+    fn limit_two(&self, _reference: u32) -> u32 {
         self.two
     }
 
-    fn turnover(&self, reference: u32) -> u32 {
+    fn turnover(&self, _reference: u32) -> u32 {
         self.most
     }
 }

@@ -25,11 +25,7 @@ impl State {
             dynamic: reference,
             count: 0,
             collected: 0,
-            totals: Totals {
-                accepted: 0,
-                done: 0,
-                out: 0,
-            },
+            totals: Totals::default(),
             phase: Phase::Dark,
             table: Table::new(),
         }
@@ -40,16 +36,13 @@ impl<S: Sheet, R: Ranking> Book<S, R> {
     // Checked particulars make a book: it cannot be refused.
     pub fn open(particulars: Particulars, sheet: S, ranking: R) -> Book<S, R>
         ensures state { result.state ≡ fresh particulars.reference }
-        ensures terms { (result.terms.sheet ≡ sheet) × (result.terms.ranking ≡ ranking) × (result.terms.reference ≡ particulars.reference) × (result.terms.reply ≡ particulars.reply) }
+        ensures terms { (result.terms.sheet ≡ sheet) × (result.terms.ranking ≡ ranking) × (result.terms.particulars ≡ particulars) }
     {
-        let reference = particulars.reference();
-        let reply = particulars.reply();
-        let state = State::fresh(reference);
+        let state = State::fresh(particulars.reference());
         let terms = Terms {
             sheet,
             ranking,
-            reference,
-            reply,
+            particulars,
         };
         Book { terms, state }
     }

@@ -1,18 +1,19 @@
 // What the Specialist replies to an RFE.
 ghost use Rattle.std.specs.Prelude.{◌≡◌, ◌≤◌, true, length, is_ok};
-ghost use Rattle.book.specs.Cross.{written};
 ghost use Rattle.session.specs.Calls.{collecting, declined, spent_by, summons_of, validated};
+ghost use Rattle.session.specs.Tells.{Tells};
 ghost use Rattle.session.specs.Terms.{day_of};
 
 use crate::answer::Answer;
 use crate::fault::SessionFault;
 use crate::open_book::Book;
+use crate::quotation::Quotation;
 use crate::summons::Summons;
 use book::ranking::Ranking;
 use book::slip::Slip;
-use figures::check::Offer;
 use figures::sheet::Sheet;
 
+#[tactic(auto, using(crate::proofs::Pasts::bounded_by))]
 impl<S: Sheet, R: Ranking> Book<S, R> {
     // The summons of the open RFE the first time, else a blank.
     pub fn collect(&mut self) -> Summons
@@ -27,19 +28,16 @@ impl<S: Sheet, R: Ranking> Book<S, R> {
     pub fn validate(
         &mut self,
         summons: &mut Summons,
-        offer: Offer,
-        flagged: bool,
+        quotation: Quotation,
         out: &mut [Slip],
     ) -> Result<Answer, SessionFault>
-        ensures value { result ≡ (validated (day_of S.Sheet.means R.Ranking.ranks self.old.terms) self.old.state (length out.old) summons.old.number offer flagged).result }
-        ensures after { self.new.state ≡ (validated (day_of S.Sheet.means R.Ranking.ranks self.old.terms) self.old.state (length out.old) summons.old.number offer flagged).state }
-        ensures slips { out.new ≡ written (validated (day_of S.Sheet.means R.Ranking.ranks self.old.terms) self.old.state (length out.old) summons.old.number offer flagged).slips out.old }
+        ensures told { Tells (validated (day_of S.Sheet.means R.Ranking.ranks self.old.terms) self.old.state (length out.old) summons.old.number quotation.offer quotation.flagged) result self.new.state out.old out.new }
         ensures summons { summons.new.number ≡ spent_by result summons.old.number }
         ensures terms { self.new.terms ≡ self.old.terms }
     {
         let answer = self
             .state
-            .validate(&self.terms, summons.number, offer, flagged, out)?;
+            .validate(&self.terms, summons.number, quotation, out)?;
         summons.number = 0;
         Ok(answer)
     }
@@ -50,9 +48,7 @@ impl<S: Sheet, R: Ranking> Book<S, R> {
         summons: &mut Summons,
         out: &mut [Slip],
     ) -> Result<Answer, SessionFault>
-        ensures value { result ≡ (declined (day_of S.Sheet.means R.Ranking.ranks self.old.terms) self.old.state (length out.old) summons.old.number).result }
-        ensures after { self.new.state ≡ (declined (day_of S.Sheet.means R.Ranking.ranks self.old.terms) self.old.state (length out.old) summons.old.number).state }
-        ensures slips { out.new ≡ written (declined (day_of S.Sheet.means R.Ranking.ranks self.old.terms) self.old.state (length out.old) summons.old.number).slips out.old }
+        ensures told { Tells (declined (day_of S.Sheet.means R.Ranking.ranks self.old.terms) self.old.state (length out.old) summons.old.number) result self.new.state out.old out.new }
         ensures summons { summons.new.number ≡ spent_by result summons.old.number }
         ensures ok { 129 ≤ length out.old → is_ok result ≡ true }
         ensures terms { self.new.terms ≡ self.old.terms }

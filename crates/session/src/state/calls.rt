@@ -1,4 +1,5 @@
-// The calls: tests first, so that a refusal leaves all as it was, then the work.
+// The calls: tests first, so that a refusal leaves all as it was, then the work. Terms and list are lent apart: a
+// struct of both would be made at each call and taken apart at each step, since a cancel lends on a part of the list.
 ghost use Rattle.std.specs.Prelude.{length};
 ghost use Rattle.session.specs.Bounds.{Bounded, FewCancelled};
 ghost use Rattle.session.specs.Calls.{cancelled, declined, entered, quoted, ticked, validated, withdrawn};
@@ -10,14 +11,14 @@ use crate::answer::Answer;
 use crate::check::check_room;
 use crate::entry::Entry;
 use crate::fault::SessionFault;
+use crate::quotation::Quotation;
 use crate::state::State;
-use crate::state::made::quote_from;
 use crate::terms::Terms;
 use book::ranking::Ranking;
 use book::slip::Slip;
-use figures::check::Offer;
 use figures::sheet::Sheet;
 
+#[tactic(auto, using(crate::proofs::LowTotals::low_of, crate::proofs::Keeps::put_few, crate::proofs::Keeps::withdraw_few, crate::proofs::Keeps::clock_few, crate::proofs::Keeps::enter_few))]
 impl State {
     pub(crate) fn enter<S: Sheet, R: Ranking>(
         &mut self,
@@ -51,17 +52,15 @@ impl State {
     pub(crate) fn quote<S: Sheet, R: Ranking>(
         &mut self,
         terms: &Terms<S, R>,
-        offer: Offer,
-        flagged: bool,
+        quotation: Quotation,
         out: &mut [Slip],
     ) -> Result<Answer, SessionFault>
         requires { Bounded self.old }
-        ensures { Tells (quoted (day_of S.Sheet.means R.Ranking.ranks terms.now) self.old (length out.old) offer flagged) result self.new out.old out.new }
+        ensures { Tells (quoted (day_of S.Sheet.means R.Ranking.ranks terms.now) self.old (length out.old) quotation.offer quotation.flagged) result self.new out.old out.new }
     {
-        let number = self.check_quote(terms, out.len(), offer)?;
+        let number = self.check_quote(terms, out.len(), quotation.offer)?;
         self.count = number;
-        let quote = quote_from(offer, flagged, number);
-        Ok(self.carry_out(terms, Act::Put(quote), number, out))
+        Ok(self.carry_out(terms, Act::Put(quotation.quote(number)), number, out))
     }
 
     pub(crate) fn withdraw<S: Sheet, R: Ranking>(
@@ -80,17 +79,15 @@ impl State {
         &mut self,
         terms: &Terms<S, R>,
         summons: u32,
-        offer: Offer,
-        flagged: bool,
+        quotation: Quotation,
         out: &mut [Slip],
     ) -> Result<Answer, SessionFault>
         requires { Bounded self.old }
-        ensures { Tells (validated (day_of S.Sheet.means R.Ranking.ranks terms.now) self.old (length out.old) summons offer flagged) result self.new out.old out.new }
+        ensures { Tells (validated (day_of S.Sheet.means R.Ranking.ranks terms.now) self.old (length out.old) summons quotation.offer quotation.flagged) result self.new out.old out.new }
     {
-        self.check_validate(terms, out.len(), summons, offer)?;
+        self.check_validate(terms, out.len(), summons, quotation.offer)?;
         let number = self.kept_number();
-        let quote = quote_from(offer, flagged, number);
-        Ok(self.carry_out(terms, Act::Put(quote), number, out))
+        Ok(self.carry_out(terms, Act::Put(quotation.quote(number)), number, out))
     }
 
     pub(crate) fn decline<S: Sheet, R: Ranking>(
@@ -106,7 +103,7 @@ impl State {
         if self.fits(summons) {
             Ok(self.carry_out(terms, Act::Withdraw, 0, out))
         } else {
-            Ok(self.answer(0, 0))
+            Ok(self.status())
         }
     }
 

@@ -3,7 +3,7 @@ ghost use Rattle.std.specs.Prelude.{◌≡◌};
 ghost use Rattle.session.specs.Checks.{cancel_check, clock_check, enter_check, fits, may_be, quote_test, validate_check, withdraw_check};
 ghost use Rattle.session.specs.Terms.{day_of};
 
-use crate::check::{check, check_room};
+use crate::check::check_room;
 use crate::entry::Entry;
 use crate::fault::SessionFault;
 use crate::state::State;
@@ -11,7 +11,9 @@ use crate::terms::Terms;
 use book::admit::{admit_order, admit_quote};
 use book::found::Found;
 use book::ranking::Ranking;
-use figures::check::{Offer, check_quote, check_sender};
+use figures::check::check;
+use figures::offer::Offer;
+use figures::sender::check_sender;
 use figures::sheet::Sheet;
 
 // The last second of a day.
@@ -31,15 +33,13 @@ impl State {
         check_sender(entry.sender)?;
         check(!self.phase.is_halted(), SessionFault::Halted)?;
         check(!self.phase.is_dark(), SessionFault::Dark)?;
-        let ticket = admit_order(
-            &terms.sheet,
-            terms.reference,
+        Ok(admit_order(
+            &terms.instrument(),
             entry.price,
             entry.pieces,
             &self.table,
             self.count,
-        )?;
-        Ok(ticket)
+        )?)
     }
 
     pub(crate) fn check_cancel(
@@ -51,8 +51,7 @@ impl State {
         ensures { result ≡ cancel_check self.now places sender ticket }
     {
         check_room(places)?;
-        let found = self.table.owned(sender, ticket)?;
-        Ok(found)
+        Ok(self.table.owned(sender, ticket)?)
     }
 
     // The quote's number.
@@ -67,8 +66,7 @@ impl State {
         check_room(places)?;
         check(!self.phase.is_halted(), SessionFault::Halted)?;
         check(!self.phase.is_asked(), SessionFault::Asking)?;
-        let number = admit_quote(&terms.sheet, terms.reference, offer, self.count)?;
-        Ok(number)
+        Ok(admit_quote(&terms.instrument(), offer, self.count)?)
     }
 
     pub(crate) fn check_withdraw(&self, places: usize) -> Result<(), SessionFault>
@@ -82,7 +80,7 @@ impl State {
     pub(crate) fn fits(&self, summons: u32) -> bool
         ensures { result ≡ fits self.now summons }
     {
-        self.phase.is_asked() && summons == self.phase.opener()
+        self.phase.opening() == Some(summons)
     }
 
     pub(crate) fn check_validate<S: Sheet, R: Ranking>(
@@ -96,15 +94,14 @@ impl State {
     {
         check_room(places)?;
         check(self.fits(summons), SessionFault::Summons)?;
-        check_quote(&terms.sheet, terms.reference, offer)?;
-        Ok(())
+        Ok(terms.instrument().check_quote(offer)?)
     }
 
     // The clock never goes back, and the day has an end.
     fn may_be(&self, seconds: u32) -> bool
         ensures { result ≡ may_be self.now seconds }
     {
-        self.clock <= seconds && seconds <= LAST_SECOND
+        (self.clock..=LAST_SECOND).contains(&seconds)
     }
 
     pub(crate) fn check_clock(&self, places: usize, seconds: u32) -> Result<(), SessionFault>

@@ -1,28 +1,15 @@
 // A cross in a book.
 ghost use Rattle.std.specs.Prelude.{◌≡◌};
 ghost use Rattle.session.specs.Deeds.{Deed};
-ghost use Rattle.session.specs.Runs.{crossing, lit_by};
+ghost use Rattle.session.specs.Runs.{crossing};
 ghost use Rattle.session.specs.Terms.{day_of};
 
-use crate::phase::Phase;
 use crate::state::State;
 use crate::terms::Terms;
 use book::quote::Quote;
 use book::ranking::Ranking;
 use book::slip::Slip;
 use figures::sheet::Sheet;
-
-impl Phase {
-    // The phase with that quote, if one stands.
-    pub(crate) fn lit_by(quote: Option<Quote>) -> Phase
-        ensures { result ≡ lit_by quote }
-    {
-        match quote {
-            None => Phase::Dark,
-            Some(quote) => Phase::Lit(quote),
-        }
-    }
-}
 
 impl State {
     // Runs a cross under a governing quote, with a quote standing or none, and gives the slip count.
@@ -38,7 +25,7 @@ impl State {
     {
         let frame = terms.frame(self, governing, entered);
         let crossed = self.table.cross(&terms.ranking, frame, stands, out);
-        self.phase = terms.phase_after(self.clock, crossed);
+        self.phase = terms.phase_after(self.clock, crossed.outcome);
         crossed.count
     }
 }

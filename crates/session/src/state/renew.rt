@@ -12,10 +12,9 @@ impl State {
     fn middle(&self, quote: Option<Quote>) -> u32
         ensures { result ≡ middle self.now quote }
     {
-        match quote {
-            None => self.dynamic,
-            Some(quote) => ((quote.bid as u64 + quote.ask as u64) / 2) as u32,
-        }
+        quote.map_or(self.dynamic, |quote| {
+            ((quote.bid as u64 + quote.ask as u64) / 2) as u32
+        })
     }
 
     pub(crate) fn renew(&mut self) -> Answer
@@ -23,7 +22,7 @@ impl State {
         ensures after { self.new ≡ (renewed self.old).state }
     {
         self.dynamic = self.middle(self.phase.quote());
-        self.answer(0, 0)
+        self.status()
     }
 
     // The summons of the open RFE the first time, else a blank.
@@ -31,12 +30,12 @@ impl State {
         ensures value { result.number ≡ summons_of self.old }
         ensures after { self.new ≡ collecting self.old }
     {
-        let opener = self.phase.opener();
-        if self.collected < opener {
-            self.collected = opener;
-            Summons { number: opener }
-        } else {
-            Summons { number: 0 }
+        match self.phase.opening() {
+            Some(opener) if self.collected < opener => {
+                self.collected = opener;
+                Summons { number: opener }
+            }
+            _ => Summons::blank(),
         }
     }
 }

@@ -8,7 +8,7 @@ use crate::state::State;
 use book::order::Order;
 
 // Orders that stand, and their pieces.
-#[derive(Clone, Copy)]
+#[derive(Clone, Copy, Default)]
 struct Left {
     orders: u32,
     pieces: u64,
@@ -21,18 +21,16 @@ fn left_in(row: &Option<Order>) -> Left
     ensures single { result.orders ≤ 1 }
     ensures low { result.pieces ≤ 4294967295 }
 {
-    match row {
-        None => Left {
-            orders: 0,
-            pieces: 0,
-        },
-        Some(order) => Left {
+    row.as_ref().map_or(
+        Left::default(),
+        |order| Left {
             orders: 1,
             pieces: order.pieces as u64,
         },
-    }
+    )
 }
 
+// One `for` over the rows that counts and sums: a rule of the project.
 fn sum(rows: &[Option<Order>; 128]) -> Left
     ensures orders { result.orders ≡ standing rows.now }
     ensures pieces { result.pieces ≡ held_in rows.now }

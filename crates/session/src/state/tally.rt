@@ -6,7 +6,7 @@ ghost use Rattle.session.specs.Calls.{done_on, out_on, tallied};
 use crate::state::Totals;
 use book::slip::Slip;
 
-// The pieces of a trade, for the order of that ticket; 0 is the quote.
+// The pieces of a trade, for the order of that ticket; 0 is the quote, as on its slip.
 fn count_for(ticket: u32, pieces: u32) -> u64
     ensures is { result ≡ (if nat_eq ticket 0 then 0 else pieces) }
     ensures low { result ≤ 4294967295 }
@@ -20,16 +20,12 @@ fn done_on(slip: Slip) -> u64
 {
     match slip {
         Slip::Trade {
-            price: _,
             pieces,
             buyer,
             seller,
+            ..
         } => count_for(buyer, pieces) + count_for(seller, pieces),
-        Slip::Out {
-            cause: _,
-            ticket: _,
-            pieces: _,
-        } => 0,
+        Slip::Out { .. } => 0,
     }
 }
 
@@ -38,17 +34,8 @@ fn out_on(slip: Slip) -> u64
     ensures low { result ≤ 4294967295 }
 {
     match slip {
-        Slip::Trade {
-            price: _,
-            pieces: _,
-            buyer: _,
-            seller: _,
-        } => 0,
-        Slip::Out {
-            cause: _,
-            ticket: _,
-            pieces,
-        } => pieces as u64,
+        Slip::Trade { .. } => 0,
+        Slip::Out { pieces, .. } => pieces as u64,
     }
 }
 

@@ -7,7 +7,7 @@ ghost use Rattle.session.specs.Terms.{day_of};
 use crate::phase::{Phase, Rfe};
 use crate::state::State;
 use crate::terms::Terms;
-use book::crossed::Crossed;
+use book::crossed::Outcome;
 use book::frame::Frame;
 use book::quote::Quote;
 use book::ranking::Ranking;
@@ -27,30 +27,25 @@ impl<S: Sheet, R: Ranking> Terms<S, R> {
             opener: state.phase.opening(),
             entered,
             dynamic: state.dynamic,
-            limit: self.sheet.limit_two(self.reference),
+            limit: self.sheet.limit_two(self.particulars.reference()),
         }
     }
 
     // The phase after a cross.
-    pub(crate) fn phase_after(&self, clock: u32, crossed: Crossed) -> Phase
-        ensures { result ≡ phase_from (day_of S.Sheet.means R.Ranking.ranks self.now) clock crossed }
+    pub(crate) fn phase_after(&self, clock: u32, outcome: Outcome) -> Phase
+        ensures { result ≡ phase_from (day_of S.Sheet.means R.Ranking.ranks self.now) clock outcome }
     {
-        match (crossed.asked, crossed.quote) {
-            (Some(opener), Some(quote)) => Phase::Asked(
+        match outcome {
+            Outcome::Dark => Phase::Dark,
+            Outcome::Lit(quote) => Phase::Lit(quote),
+            Outcome::Asked(quote, opener) => Phase::Asked(
                 quote,
                 Rfe {
                     opener,
-                    due: clock as u64 + self.reply as u64,
+                    due: clock as u64 + self.particulars.reply() as u64,
                 },
             ),
-            (Some(_), None) => Phase::Dark,
-            (None, quote) => {
-                if crossed.halted {
-                    Phase::Halted(clock as u64 + HALT)
-                } else {
-                    Phase::lit_by(quote)
-                }
-            }
+            Outcome::Halted => Phase::Halted(clock as u64 + HALT),
         }
     }
 }

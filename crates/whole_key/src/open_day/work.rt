@@ -5,38 +5,25 @@ ghost use Rattle.session.specs.Opening.{particulars_fault};
 ghost use Rattle.session.specs.Phases.{opener_of};
 ghost use Rattle.session.specs.Stories.{replied};
 ghost use Rattle.whole_key.specs.Calls.{call_of};
-ghost use Rattle.whole_key.specs.Seats.{after, fresh_seat, makes, opening_answer, seat_of, settled, tidied};
-ghost use Rattle.whole_key.specs.Tellings.{end_lines, response_lines, result_lines, yield_lines};
+ghost use Rattle.whole_key.specs.Seats.{after, fresh_seat, makes, seat_of, settled, tidied};
+ghost use Rattle.program.specs.Tellings.{response_lines};
+ghost use Rattle.whole_key.specs.Tellings.{end_lines, result_lines, yield_lines};
 
 use crate::open_day::OpenDay;
-use crate::request::{Call, Opening};
-use crate::response::Response;
+use crate::request::Call;
 use book::slip::Slip;
+use program::opening::Opening;
+use program::response::Response;
 use session::answer::Answer;
 use session::check::PLACES;
 use session::fault::SessionFault;
 use session::open_book::Book;
 use session::particulars::Particulars;
-use session::phase::PhaseKind;
 use session::summons::Summons;
-
-impl Opening {
-    // The answer of a fresh book.
-    pub(crate) fn answer(self) -> Answer
-        ensures { result ≡ opening_answer self }
-    {
-        Answer {
-            phase: PhaseKind::Dark,
-            slips: 0,
-            number: 0,
-            dynamic: self.reference,
-            opener: 0,
-        }
-    }
-}
 
 impl OpenDay {
     // The call itself: V and D carry the held summons.
+    #[tactic(auto, unfolding(session::specs::Stories::yields))]
     fn place(&mut self, call: Call, paper: &mut [Slip; PLACES]) -> Result<Answer, SessionFault>
         ensures value { replied result ≡ (makes (seat_of self.old) (call_of call)).reply }
         ensures after { seat_of self.new ≡ after (seat_of self.old) (call_of call) }
@@ -44,11 +31,9 @@ impl OpenDay {
     {
         match call {
             Call::Enter(entry) => self.book.enter(entry, paper),
-            Call::Cancel(sender, ticket) => self.book.cancel(sender, ticket, paper),
-            Call::Quote(offer, flagged) => self.book.quote(offer, flagged, paper),
-            Call::Validate(offer, flagged) => {
-                self.book.validate(&mut self.summons, offer, flagged, paper)
-            }
+            Call::Cancel { sender, ticket } => self.book.cancel(sender, ticket, paper),
+            Call::Quote(quotation) => self.book.quote(quotation, paper),
+            Call::Validate(quotation) => { self.book.validate(&mut self.summons, quotation, paper) }
             Call::Clock(seconds) => self.book.clock(seconds, paper),
             Call::Withdraw => self.book.withdraw(paper),
             Call::Decline => self.book.decline(&mut self.summons, paper),
@@ -105,15 +90,14 @@ impl OpenDay {
         ensures { response_lines (Ok result) paper.new ≡ end_lines (seat_of self) }
     {
         let is_blank = self.holds(0);
-        let OpenDay { book, summons } = self;
+        let OpenDay {
+            mut book,
+            mut summons,
+        } = self;
         if is_blank {
             return Response::Closed(book.close());
         }
-        let mut book = book;
-        let mut summons = summons;
-        match book.decline(&mut summons, paper) {
-            Ok(answer) => Response::Declined(answer, book.close()),
-            Err(_) => unreachable(),
-        }
+        let answer = book.decline(&mut summons, paper).unwrap();
+        Response::Declined(answer, book.close())
     }
 }

@@ -1,12 +1,7 @@
-use Rattle.std.proofs.Common.{rules}
-use Rattle.session.specs.Terms.{day_of}
 use Rattle.session.proofs.Pasts.{promised}
 use Rattle.session.proofs.open_book.Book.close.Goals as goal
 
-pub returns : goal.returns
-returns g c =
-    let t = c.args.self.terms in
-    record {
-      value = search rules;
-      lawful = promised (day_of g.S.Sheet.means g.R.Ranking.ranks t) (g.met.R.Ranking.lawful t.ranking) c.args.self.state c.args.self.past;
-    }
+pub returns-clause-lawful : goal.returns-clause-lawful
+returns-clause-lawful g c =
+    let b = c.args.self in
+    promised g.S.Sheet.means g.R.Ranking.ranks g.met.R.Ranking.lawful b.terms b.state b.past

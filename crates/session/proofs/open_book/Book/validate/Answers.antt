@@ -1,15 +1,9 @@
 use Rattle.session.specs.Stories.{Validate, yields}
-use Rattle.session.specs.Terms.{day_of}
-use Rattle.session.proofs.Pasts.{bounded_by, called, lawful_day}
+use Rattle.session.proofs.Pasts.{longer}
 use Rattle.session.proofs.open_book.Book.validate.Goals as goal
-
-pub validate-requires : goal.validate-requires
-validate-requires g c = bounded_by c.args.self.now.state c.args.self.now.past
 
 pub invariant_of-self : goal.invariant_of-self
 unfolding yields
 invariant_of-self g c =
-    let t = c.args.self.now.terms in
-    let d = day_of g.S.Sheet.means g.R.Ranking.ranks t in
-    let l = lawful_day g.S.Sheet.means g.R.Ranking.ranks g.met.S.Sheet.lawful g.met.R.Ranking.lawful t in
-    record { past = called c.args.self.now.state d l (Validate c.args.offer c.args.flagged) c.args.out.now c.args.summons.now.number _ c.validate.ensures.state c.args.self.now.past }
+    let b = c.args.self.now in
+    record { past = longer g.S.Sheet.means g.R.Ranking.ranks g.met.S.Sheet.lawful g.met.R.Ranking.lawful b.terms b.state (Validate c.args.quotation.offer c.args.quotation.flagged) c.args.out.now c.args.summons.now.number _ c.validate.ensures.state b.past }

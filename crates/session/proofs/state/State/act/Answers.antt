@@ -1,16 +1,6 @@
-use Rattle.std.proofs.Common.{arith}
 use Rattle.session.specs.Terms.{day_of}
-use Rattle.session.proofs.Cancels.{cancel_asked, unreached_few}
+use Rattle.session.proofs.Cancels.{cancel_asked}
 use Rattle.session.proofs.state.State.act.Goals as goal
-
-pub overflow_add-result : goal.overflow_add-result
-overflow_add-result g c =
-    omega (
-      arith,
-      c.take_out-first.ensures.count,
-      c.end_unreached.ensures.count,
-      unreached_few (day_of g.S.Sheet.means g.R.Ranking.ranks c.args.terms.now) c.take_out-first.new.self c.in-Asked-Cancel.quote,
-    )
 
 pub returns-in-Asked-Cancel : goal.returns-in-Asked-Cancel
 returns-in-Asked-Cancel g c =

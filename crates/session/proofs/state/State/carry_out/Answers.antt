@@ -1,14 +1,10 @@
-use Rattle.std.proofs.Common.{arith, length-take}
 use Rattle.session.specs.Terms.{day_of}
 use Rattle.session.proofs.Carried.{carried, low_after}
 use Rattle.session.proofs.state.State.carry_out.Goals as goal
 
-pub tally-requires : goal.tally-requires
-tally-requires g c =
-    record {
-      few = simp length-take (omega (arith, c.requires.few, c.act-count.ensures.count));
-      low = low_after (day_of g.S.Sheet.means g.R.Ranking.ranks c.args.terms.now) c.args.self.now c.args.act _ _ _ _ c.act-count.ensures c.requires.low;
-    }
+pub tally-requires-clause-low : goal.tally-requires-clause-low
+tally-requires-clause-low g c =
+    low_after (day_of g.S.Sheet.means g.R.Ranking.ranks c.args.terms.now) c.args.self.now c.args.act _ _ _ _ c.act-count.ensures c.requires.low
 
 pub returns : goal.returns
 returns g c =

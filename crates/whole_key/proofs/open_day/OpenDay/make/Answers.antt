@@ -3,7 +3,7 @@ use Rattle.session.specs.Phases.{opener_of}
 use Rattle.whole_key.specs.Calls.{call_of}
 use Rattle.whole_key.specs.Seats.{after, makes, seat_of, settled, tidied}
 use Rattle.whole_key.proofs.Counting.{counted, told_lines_lem, told_opener}
-use Rattle.whole_key.proofs.Lawful.{ranking_lawful}
+use Rattle.program.proofs.Lawful.{ranking_lawful}
 use Rattle.whole_key.proofs.open_day.OpenDay.make.Goals as goal
 
 pub tidy-requires : goal.tidy-requires

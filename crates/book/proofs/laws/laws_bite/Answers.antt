@@ -1,5 +1,0 @@
-use Rattle.book.proofs.Biting.{teeth}
-use Rattle.book.proofs.laws.laws_bite.Goals as goal
-
-pub returns : goal.returns
-returns c = teeth

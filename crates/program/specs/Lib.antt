@@ -1,0 +1,11 @@
+pub mod Cuts
+pub mod Desks
+pub mod Lent
+pub mod Lines
+pub mod Openings
+pub mod Papers
+pub mod Rankings
+pub mod Refusals
+pub mod Tellings
+pub mod Unused
+pub mod Written
