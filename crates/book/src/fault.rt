@@ -17,6 +17,7 @@ pub enum BookFault {
     Figures(FiguresFault),
 }
 
+// By hand: a derive would state no `from_gives`.
 impl From<FiguresFault> for BookFault {
     ghost from_gives = { λ e r. r ≡ Figures e };
 

@@ -10,7 +10,7 @@ use crate::slip::{Cause, Slip};
 // One party of a trade: an order in its row, or none for the quote.
 pub(crate) type Party = Option<Found>;
 
-// `Ask` carries the ticket of the order that the quote is asked about, and so opens an RFE.
+// Data, and no switch: the laws speak of each move. `Ask` carries the ticket of the order that the quote is asked about, and so opens an RFE.
 #[derive(Clone, Copy)]
 pub enum Move {
     Stop,

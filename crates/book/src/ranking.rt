@@ -7,7 +7,8 @@ ghost use Rattle.book.specs.Ranks.{RankLaw, better};
 use crate::proposal::Proposal;
 use crate::side::Side;
 
-// A ranking answers what it means, and refuses and alters nothing. It may carry data of its own.
+// A ranking answers what it means, and refuses and alters nothing. It may carry data of its own. The side and
+// the two proposals are its one question.
 pub trait Ranking: Drop {
     ghost ranks: { Self → Side → Proposal → Proposal → Bool };
 

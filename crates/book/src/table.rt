@@ -12,6 +12,7 @@ use crate::order::Order;
 use crate::put::put;
 use crate::quote::Quote;
 
+// A fixed table, by the rules of the project.
 #[derive(Drop)]
 pub struct Table {
     pub rows: [Option<Order>; 128],

@@ -19,6 +19,7 @@ const INSTRUMENT: Instrument<'static, Product> = Instrument {
 
 fn full(rt: &impl Abort) -> Result<Table, BookFault> {
     let mut table = Table::new();
+    // tickets, and no places of a list
     for ticket in 2..130u32 {
         assert!(rt; !table.is_full());
         table.place(Order::from(Row(ticket, Buy, 100_000, 10)))?;

@@ -59,6 +59,7 @@ fn what_is_left_goes_out_lowest_ticket_first(rt: HostRuntime) {
 // 128 execute-and-cancel buys of two pieces, their tickets 1 to 128 in mixed order.
 fn crowd() -> Result<Table, BookFault> {
     let mut table = Table::new();
+    // numbers that make tickets, and no places of a list
     for i in 0..128u32 {
         table.place(Order::from(Row(i * 37 % 128 + 1, BriefBuy, 101_000, 2)))?;
     }

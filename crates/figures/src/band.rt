@@ -17,7 +17,7 @@ impl<T> Band<T> {
     }
 }
 
-// The value of the first row that reaches `at`; above them all, `above`.
+// The value of the first row that reaches `at`; above them all, `above`. The one search over lent rows of the project.
 pub fn find_band<T: Copy>(rows: &[Band<T>], above: T, at: u32) -> T
     ensures is { result ≡ band_of above rows.now at }
     ensures first { FirstReach above rows.now at result }

@@ -3,6 +3,7 @@ ghost use Rattle.std.specs.Prelude.{◌≡◌};
 ghost use Rattle.std.specs.Result.{result_ok};
 ghost use Rattle.key.specs.Requests.{close_request, request_of};
 
+use figures::check::check;
 use program::opening::Opening;
 use program::unused::is_bare;
 use records::line::{Line, Unreadable};
@@ -14,11 +15,12 @@ pub enum Request {
     Close,
 }
 
-// X: nothing more.
-fn close_request(line: Line) -> Option<Request>
-    ensures { result ≡ close_request line }
+// X: nothing more. That of the whole key is one call of `is_bare` too: a shared one would be that call again.
+fn close_request(line: Line) -> Result<Request, Unreadable>
+    ensures { result_ok result ≡ close_request line }
 {
-    is_bare(line).then_some(Request::Close)
+    check(is_bare(line), Unreadable)?;
+    Ok(Request::Close)
 }
 
 impl TryFrom<Line> for Request {
@@ -29,7 +31,7 @@ impl TryFrom<Line> for Request {
     fn try_from(line: Line) -> Result<Request, Unreadable> {
         match line.letter {
             b'O' => Opening::try_from(line).map(Request::Open),
-            b'X' => close_request(line).ok_or(Unreadable),
+            b'X' => close_request(line),
             _ => Err(Unreadable),
         }
     }

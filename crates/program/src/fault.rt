@@ -17,6 +17,7 @@ pub enum ProgramFault {
     Session(SessionFault),
 }
 
+// By hand, here and below: a derive would state no `from_gives`.
 impl From<line::Unreadable> for ProgramFault {
     ghost from_gives = { λ _ r. r ≡ Unreadable };
 

@@ -19,14 +19,14 @@ pub struct Opening {
     pub reply: u32,
 }
 
-// No `TryFrom<u8>` beside Product: its error would be made Unreadable here again.
-fn sheet_of(mark: u8) -> Option<Product>
-    ensures { result ≡ sheet_of mark }
+// No `TryFrom<u8>` beside Product, where no record is known and none is unreadable.
+fn sheet_of(mark: u8) -> Result<Product, Unreadable>
+    ensures { result_ok result ≡ sheet_of mark }
 {
     match mark {
-        b'L' => Some(Product::Leveraged),
-        b'I' => Some(Product::Investment),
-        _ => None,
+        b'L' => Ok(Product::Leveraged),
+        b'I' => Ok(Product::Investment),
+        _ => Err(Unreadable),
     }
 }
 
@@ -37,7 +37,7 @@ impl TryFrom<Line> for Opening {
     ghost try_from_gives = { λ line r. result_ok r ≡ opening_of line };
 
     fn try_from(line: Line) -> Result<Opening, Unreadable> {
-        let sheet = sheet_of(line.mark).ok_or(Unreadable)?;
+        let sheet = sheet_of(line.mark)?;
         let ranking = RankingKind::try_from(line.second)?;
         check(empty_from_third(line), Unreadable)?;
         Ok(Opening {

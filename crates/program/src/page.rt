@@ -21,7 +21,7 @@ pub(crate) const RECORD_SIZE: usize = 40;
 const PAGE_SIZE: usize = 5280;
 
 // A clause sees the bytes that are written so far. They are no Vec: the static library has no heap; and no
-// ArrayVec, which writes each of its places again when it is cleared.
+// ArrayVec, each put on which would answer an error that no page has.
 #[derive(Drop)]
 pub(crate) struct Page {
     bytes: [u8; PAGE_SIZE],

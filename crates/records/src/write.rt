@@ -5,7 +5,8 @@ ghost use Rattle.records.specs.Conversions.{Writes};
 
 use crate::line::Line;
 
-// The last N decimal digits of a number, the highest first: written from the last place on, as they come.
+// The last N decimal digits of a number, the highest first: written from the last place on, as they come. By place,
+// since an adapter of `iter_mut` tells a proof nothing of what was written.
 fn digits<const N: usize>(n: u32) -> [u8; N]
     ensures { result ≡ digits_of N n }
 {
@@ -19,7 +20,7 @@ fn digits<const N: usize>(n: u32) -> [u8; N]
 }
 
 // Each number by its last digits: a line whose numbers all have room is what reading the bytes
-// gives back.
+// gives back. By the place of each field: a writer of the next digits would say no more.
 impl From<Line> for [u8; 40] {
     ghost from_gives = { Writes };
 

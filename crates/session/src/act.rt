@@ -1,4 +1,4 @@
-// What an accepted call does to a book.
+// What an accepted call does to a book, as data: it is matched together with the phase that it finds.
 use book::found::Found;
 use book::order::Order;
 use book::quote::Quote;

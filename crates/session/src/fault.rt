@@ -31,6 +31,7 @@ pub enum SessionFault {
     Book(BookFault),
 }
 
+// By hand, here and below: a derive would state no `from_gives`.
 impl From<BookFault> for SessionFault {
     ghost from_gives = { λ e r. r ≡ Book e };
 

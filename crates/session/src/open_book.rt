@@ -6,7 +6,8 @@ use crate::terms::Terms;
 use book::ranking::Ranking;
 use figures::sheet::Sheet;
 
-// Only close takes it away. Behind its state stand the calls that led to it.
+// Only close takes it away. Behind its state stand the calls that led to it. The calls of the state stand here once
+// more: a state changes field by field, and no past fits it on the way.
 pub struct Book<S: Sheet, R: Ranking> {
     terms: Terms<S, R>,
     state: State,

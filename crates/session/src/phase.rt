@@ -11,6 +11,7 @@ pub struct Rfe {
     pub due: u64,
 }
 
+// Data, and no switch: each phase has its own, and the laws speak of it.
 #[derive(Clone, Copy)]
 pub enum Phase {
     // no quote

@@ -17,6 +17,7 @@ use program::response::Response;
 use records::line::Line;
 use session::check::PLACES;
 
+// Clauses name the standing: a model that held it would hold functions, as that of an open day would.
 #[derive(Drop)]
 pub struct Desk {
     day: Option<OpenDay>,

@@ -90,7 +90,7 @@ impl State {
 
     // What an accepted call does, by the phase that it finds: it rewrites the phase where the phase
     // changes, writes the slips from the start of the list, and gives their count. Phases with one body have an
-    // arm each: an or-pattern inside the pair gets no generated proof.
+    // arm each: an or-pattern, inside the pair or of two pairs, gets no generated proof.
     #[tactic(auto, using(crate::proofs::Cancels::unreached_few))]
     pub(crate) fn act<S: Sheet, R: Ranking>(
         &mut self,

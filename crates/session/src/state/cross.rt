@@ -12,7 +12,8 @@ use book::slip::Slip;
 use figures::sheet::Sheet;
 
 impl State {
-    // Runs a cross under a governing quote, with a quote standing or none, and gives the slip count.
+    // Runs a cross under a governing quote, with a quote standing or none, and gives the slip count. Stands and
+    // entered are apart, as in a frame.
     pub(crate) fn cross<S: Sheet, R: Ranking>(
         &mut self,
         terms: &Terms<S, R>,

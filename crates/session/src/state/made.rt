@@ -6,7 +6,7 @@ ghost use Rattle.session.specs.Phases.{quote_of};
 use crate::state::State;
 
 impl State {
-    // A validated quote has the number of the one that stood; 0 where none does, which is tested before.
+    // A validated quote has the number of the one that stood; 0 where none does, as the rules tell no number.
     pub(crate) fn kept_number(&self) -> u32
         ensures { result ≡ number_of (quote_of self.now.phase) }
     {
