@@ -9,41 +9,39 @@ use crate::found::Found;
 use crate::order::Order;
 use crate::table::Table;
 
-// Of the best so far and one more order, the one that goes before the other.
+// One more order becomes the best where it goes before the best so far. Nothing else is written.
 pub(crate) fn choose<B: Fn(&Order, &Order) -> bool>(
-    best: Option<Found>,
+    best: &mut Option<Found>,
     place: usize,
     order: &Order,
     before: &B,
-) -> Option<Found>
+)
     requires before { B.IsAlwaysCallable before.now }
-    ensures { (ahead : Order → Order → Bool) → Compares B.Fn before.now ahead → result ≡ chosen ahead best place order.now }
+    ensures { (ahead : Order → Order → Bool) → Compares B.Fn before.now ahead → best.new ≡ chosen ahead best.old place order.now }
 {
     if best.is_none_or(|other| before(order, &other.order)) {
-        Some(Found {
+        *best = Some(Found {
             place,
             order: *order,
-        })
-    } else {
-        best
+        });
     }
 }
 
 // One more row.
 fn look<P: Fn(&Order) -> bool, B: Fn(&Order, &Order) -> bool>(
-    best: Option<Found>,
+    best: &mut Option<Found>,
     place: usize,
     row: &Option<Order>,
     passes: &P,
     before: &B,
-) -> Option<Found>
+)
     requires passes { P.IsAlwaysCallable passes.now }
     requires before { B.IsAlwaysCallable before.now }
-    ensures { (ok : Order → Bool) (ahead : Order → Order → Bool) → Tests P.Fn passes.now ok → Compares B.Fn before.now ahead → result ≡ looked ahead ok best place row.now }
+    ensures { (ok : Order → Bool) (ahead : Order → Order → Bool) → Tests P.Fn passes.now ok → Compares B.Fn before.now ahead → best.new ≡ looked ahead ok best.old place row.now }
 {
     match row {
         Some(order) if passes(order) => choose(best, place, order, before),
-        _ => best,
+        _ => {}
     }
 }
 
@@ -59,7 +57,7 @@ pub(crate) fn best<P: Fn(&Order) -> bool, B: Fn(&Order, &Order) -> bool>(
 {
     let mut best: Option<Found> = None;
     for (place, row) in rows.iter().enumerate() {
-        best = look(best, place, row, &passes, &before);
+        look(&mut best, place, row, &passes, &before);
     }
     best
 }

@@ -39,9 +39,9 @@ fn read_side<R: Ranking>(
 {
     let ahead = |a: &Order, b: &Order| ranking.ahead(side, a.proposal(), b.proposal());
     if order.side == side {
-        *best = choose(*best, place, order, &ahead);
+        choose(best, place, order, &ahead);
         if quote.is_reached(order, side) {
-            *taker = choose(*taker, place, order, &ahead);
+            choose(taker, place, order, &ahead);
         }
     }
 }
@@ -52,7 +52,7 @@ fn read_brief(best: &mut Option<Found>, place: usize, order: &Order)
 {
     let earlier = |a: &Order, b: &Order| a.ticket < b.ticket;
     if order.brief {
-        *best = choose(*best, place, order, &earlier);
+        choose(best, place, order, &earlier);
     }
 }
 

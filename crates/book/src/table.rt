@@ -4,7 +4,7 @@ ghost use Rattle.book.specs.Cancels.{without};
 ghost use Rattle.book.specs.Firsts.{find, is_reached};
 ghost use Rattle.book.specs.Owned.{owned_order};
 ghost use Rattle.book.specs.Places.{blanked, empty_table, lowered, placed, table_of};
-ghost use Rattle.book.specs.Tables.{free, is_full, place, standing};
+ghost use Rattle.book.specs.Tables.{free, is_full, one, place, standing};
 
 use crate::fault::BookFault;
 use crate::found::Found;
@@ -16,6 +16,24 @@ use crate::quote::Quote;
 #[derive(Drop)]
 pub struct Table {
     pub rows: [Option<Order>; 128],
+}
+
+// 1 where an order stands.
+fn one(row: &Option<Order>) -> usize
+    ensures { result ≡ one row.now }
+{
+    usize::from(row.is_some())
+}
+
+// How many orders stand in the rows, each counted as 0 or 1: a filter that is counted would branch at every row.
+fn count(rows: &[Option<Order>; 128]) -> usize
+    ensures { result ≡ standing rows.now }
+{
+    let mut orders = 0;
+    for row in rows {
+        orders += one(row);
+    }
+    orders
 }
 
 impl Table {
@@ -30,7 +48,7 @@ impl Table {
     pub fn standing(&self) -> usize
         ensures { result ≡ standing self.now.rows }
     {
-        self.rows.iter().filter(|row| row.is_some()).count()
+        count(&self.rows)
     }
 
     // Whether an order stands in every place.

@@ -4,7 +4,7 @@ use Rattle.book.proofs.first.best.Goals as goal
 
 pub loop-place-preserved : goal.loop-place-preserved
 loop-place-preserved g c ok ahead tests compares =
-    goes_on ahead ok c.args.rows.now _ _ c.loop-place.place (omega arith) (c.look-best.ensures ok ahead tests compares)
+    goes_on ahead ok c.args.rows.now _ _ c.loop-place.place (omega arith) (c.look.ensures ok ahead tests compares)
     (c.loop-place.invariant ok ahead tests compares)
 
 pub returns : goal.returns
