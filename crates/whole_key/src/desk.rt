@@ -84,6 +84,8 @@ impl Clerk for Desk {
         ensures after { standing_of self.new.day ≡ None }
         ensures tells { answers (standing_of self.old.day) [] ≡ parting_lines result paper.new }
     {
+        // a day is large, so nothing is moved where none is open
+        self.day.as_ref()?;
         Some(self.day.take()?.close(paper))
     }
 }
