@@ -4,6 +4,7 @@ ghost use Rattle.program.specs.Cuts.{CutEvenly};
 ghost use Rattle.key.specs.Keys.{key_of};
 
 use crate::desk::Desk;
+pub use program::page::RECORD_SIZE;
 use std::alloc::{AllocError, Global};
 
 // What is answered to the whole input, or an error for want of memory.

@@ -7,7 +7,7 @@ pub mod fault;
 pub mod lent;
 pub mod lines;
 pub mod opening;
-mod page;
+pub mod page;
 pub mod paper;
 pub mod ranking;
 pub mod response;

@@ -16,9 +16,9 @@ use session::report::Report;
 use std::marker::Model;
 
 // The bytes of one record, and of the 132 records of a page.
-pub(crate) const RECORD_SIZE: usize = 40;
+pub const RECORD_SIZE: usize = 40;
 
-const PAGE_SIZE: usize = 5280;
+pub const PAGE_SIZE: usize = 5280;
 
 // A clause sees the bytes that are written so far. They are no Vec: the static library has no heap; and no
 // ArrayVec, each put on which would answer an error that no page has.

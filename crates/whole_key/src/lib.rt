@@ -5,5 +5,6 @@
 pub mod desk;
 pub mod lent;
 pub mod open_day;
+pub mod page;
 pub mod request;
 pub mod whole;
