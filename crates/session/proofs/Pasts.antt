@@ -67,11 +67,11 @@ pub opened : (reference reply : ℕ) (new : State) → new ≡ fresh reference �
 opened reference reply new e = ∣ subst (Past reference reply) (sym e) (record { events = []; history = begun }) ∣₁
 
 -- whatever led to a book, it keeps the laws
-pub promised : {S R : Type 0} (means : S → ℕ → Measures) (ranks : R → Rank) → ((r : R) → RankLaw (ranks r)) →
+pub promised : (d : Day) → RankLaw d.rank → (s : State) → ∥ Past d.reference d.reply s ∥₁ → Promised d s
+promised d L s h =
+    record { stories = λ es. every_story d L es s; past = h; histories = λ es. every_history d.reference d.reply es s }
+
+-- the same under the book's own sheet and ranking
+pub promised_of : {S R : Type 0} (means : S → ℕ → Measures) (ranks : R → Rank) → ((r : R) → RankLaw (ranks r)) →
     (t : Terms S R) (s : State) → ∥ Past t.particulars.reference t.particulars.reply s ∥₁ → Promised (day_of means ranks t) s
-promised means ranks rankings t s h =
-    record {
-      stories = λ es. every_story (day_of means ranks t) (rankings t.ranking) es s;
-      past = h;
-      histories = λ es. every_history t.particulars.reference t.particulars.reply es s;
-    }
+promised_of means ranks rankings t s h = promised (day_of means ranks t) (rankings t.ranking) s h
